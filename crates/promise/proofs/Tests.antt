@@ -1,0 +1,63 @@
+-- From a test that antt computes to the fact at each entry: what holds of a whole list by computing holds at every place of it.
+use mathlib.Core.Path.{_≡_, refl, sym, ap, subst, _∙_}
+use mathlib.Core.Bool.{Bool, true, false, cond, _&&_}
+use mathlib.Core.List.{List, [], _∷_}
+use Prim.Native.Nat.{ℕ, zero, suc, _+_, _≤_, _<_}
+use native.Mathlib.Nat.{add-zero, add-suc, suc-add, zero-add, le-of-suc-le-suc, not-suc-le-zero}
+use native.Mathlib.Omega.{arith}
+use lib.Dec.{T}
+use lib.ListN.{length, getD}
+
+pub both-left : (a b : Bool) → T (a && b) → T a
+both-left true b t = tt
+both-left false b t = t
+
+pub both-right : (a b : Bool) → T (a && b) → T b
+both-right true b t = t
+both-right false b t = absurd t
+
+pub both-intro : (a b : Bool) → T a → T b → T (a && b)
+both-intro true b s t = t
+both-intro false b s t = s
+
+pub true-is : (b : Bool) → T b → b ≡ true
+true-is true t = refl
+true-is false t = absurd t
+
+pub is-true : {b : Bool} → b ≡ true → T b
+is-true e = subst T (sym e) tt
+
+-- a test that passes at each entry of a list and its place, counted from i
+abbrev pub every : {A : Type 0} → (ℕ → A → Bool) → ℕ → List A → Bool
+every f i [] = true
+every f i (x ∷ xs) = f i x && every f (suc i) xs
+
+every-from : {A : Type 0} (f : ℕ → A → Bool) (xs : List A) (d : A) (i : ℕ) → T (every f i xs) → (k : ℕ) → k < length xs → T (f (i + k) (getD xs k d))
+every-from f [] d i t k h = absurd (not-suc-le-zero h)
+every-from f (x ∷ xs) d i t zero h = subst (λ m. T (f m x)) (sym (add-zero i)) (both-left (f i x) (every f (suc i) xs) t)
+every-from f (x ∷ xs) d i t (suc k) h =
+    subst (λ m. T (f m (getD xs k d))) (suc-add i k ∙ sym (add-suc i k))
+    (every-from f xs d (suc i) (both-right (f i x) (every f (suc i) xs) t) k (le-of-suc-le-suc h))
+
+pub every-at : {A : Type 0} (f : ℕ → A → Bool) (xs : List A) (d : A) → T (every f 0 xs) → (k : ℕ) → k < length xs → T (f k (getD xs k d))
+every-at f xs d t k h = subst (λ m. T (f m (getD xs k d))) (zero-add k) (every-from f xs d 0 t k h)
+
+-- a test that passes at each of n numbers from i on
+abbrev pub from : (ℕ → Bool) → ℕ → ℕ → Bool
+from p i zero = true
+from p i (suc n) = p i && from p (suc i) n
+
+pub from-at : (p : ℕ → Bool) (i n k : ℕ) → T (from p i n) → k < n → T (p (i + k))
+from-at p i zero k t h = absurd (not-suc-le-zero h)
+from-at p i (suc n) zero t h = subst (λ m. T (p m)) (sym (add-zero i)) (both-left (p i) (from p (suc i) n) t)
+from-at p i (suc n) (suc k) t h =
+    subst (λ m. T (p m)) (suc-add i k ∙ sym (add-suc i k)) (from-at p (suc i) n k (both-right (p i) (from p (suc i) n) t) (le-of-suc-le-suc h))
+
+-- what the last arm of a match on k numbers from a on knows
+abbrev pub Others : ℕ → ℕ → ℕ → Type 0
+Others a n zero = Unit {0}
+Others a n (suc k) = Others a n k × (n ≡ a + k → ⊥)
+
+pub others-le : (a n k : ℕ) → a ≤ n → Others a n k → a + k ≤ n
+others-le a n zero l o = omega arith
+others-le a n (suc k) l o = let h : n ≡ a + k → ⊥ = o .1 in omega (arith, others-le a n k l (o .0))

@@ -1,0 +1,136 @@
+-- Laws of the vocabulary, which the crates above cite: fields and their bounds, refusals by number, sets as lists.
+use mathlib.Core.Path.{_≡_, refl, sym, ap, ap₂, _∙_, subst}
+use mathlib.Core.Bool.{Bool, true, false, cond}
+use mathlib.Core.List.{List, [], _∷_, _++_, append-assoc, append-nil}
+use Prim.Native.Nat.{ℕ, zero, suc, _+_, _-_, _*_, _/_, _%_, _^_, _≤_, _<_}
+use native.Mathlib.Nat.{mod-lt, mod-eq-of-lt, mod-one, zero-mod, div-eq-of-lt, zero-add, lt-of-lt-of-le, lt-of-le-of-lt, le-of-suc-le-suc, not-suc-le-zero}
+use native.Mathlib.Omega.{arith}
+use lib.Bits.{bitAnd, and-mask}
+use lib.Dec.{T, eqb, ltb, eqb→eq}
+use lib.ListN.{length, getD, take, replicate, set, length-append, length-replicate, List·getD-append}
+use lib.Pow.{pow-pos, pow-mono, shr-le, ones-split, ones-lt, high}
+use lib.Seq.{set-append-seam, take-append-seam}
+use borrow.Author.Tests.{lt-ltb}
+use Rattle.promise.proofs.Tests.{from, from-at}
+use Rattle.records.specs.Bits.{fieldOf}
+use Rattle.records.specs.Refusals.{refusalNumber, refusalCarries, refusals, refusalBy}
+use Rattle.records.specs.Sets.{setRoom, noRecord, recordsOf, pushed, recordAt}
+use Rattle.records.specs.declared.Record.{Record}
+use Rattle.records.specs.declared.Records.{Records}
+use Rattle.records.specs.declared.Refusal.{Refusal}
+use Rattle.records.specs.declared.Refusal.the-variants.{None, InvalidRes0, InvalidEc, InvalidFsc, InvalidSet, InvalidAet, InvalidAm, InvalidLd64bIss, Empty, InvalidDigit, PosOverflow, ShortBuffer, BadField, BadIndex, ShortEntry, BadLength, BadVersion, Unreached}
+
+-- Fields.
+
+-- all ones of n bits, with all but w shifted out, are w ones; so a mask of them is a remainder
+pub masked : (n v w : ℕ) → w ≤ n → bitAnd v ((2 ^ n - 1) / 2 ^ (n - w)) ≡ v % 2 ^ w
+masked n v w h =
+    let e : n ≡ w + (n - w) = omega arith in
+    ap (bitAnd v)
+    (ap (λ (m : ℕ). (2 ^ m - 1) / 2 ^ (n - w)) e
+    ∙ ap (λ (m : ℕ). m / 2 ^ (n - w)) (ones-split w (n - w))
+    ∙ high (2 ^ w - 1) (n - w) (ones-lt (n - w)))
+    ∙ and-mask v w
+
+-- a field that starts past the value's bits is 0, and so is one of no width; a width past them is the rest of the value
+module _ (n v start width : ℕ) (small : v < 2 ^ n) where
+  pub field-past : n ≤ start → fieldOf v start width ≡ 0
+  unfolding fieldOf
+  field-past h =
+      ap (λ x. x % 2 ^ width) (div-eq-of-lt (lt-of-lt-of-le small (pow-mono h))) ∙ zero-mod (2 ^ width)
+
+  pub field-rest : n ≤ width → fieldOf v start width ≡ v / 2 ^ start
+  unfolding fieldOf
+  field-rest h = mod-eq-of-lt (lt-of-le-of-lt (shr-le v start) (lt-of-lt-of-le small (pow-mono h)))
+
+pub field-none : (v start : ℕ) → fieldOf v start 0 ≡ 0
+unfolding fieldOf
+field-none v start = mod-one (v / 2 ^ start)
+
+-- a field fits its width
+pub field-lt : (v start width : ℕ) → fieldOf v start width < 2 ^ width
+unfolding fieldOf
+field-lt v start width = mod-lt (v / 2 ^ start) (pow-pos width)
+
+-- the assertion of the Rust's as_bit: a row of width 1 holds 0 or 1
+pub one-bit : (v place : ℕ) → (fieldOf v place 1 ≡ 0 → ⊥) → fieldOf v place 1 ≡ 1
+one-bit v place h = omega (arith, field-lt v place 1)
+
+-- Refusals.
+
+-- a refusal is its number and what it carries
+pub by-number : (f : Refusal) → refusalBy (refusalNumber f) (refusalCarries f) ≡ f
+unfolding refusalBy
+by-number None = refl
+by-number (InvalidRes0 c) = refl
+by-number (InvalidEc c) = refl
+by-number (InvalidFsc c) = refl
+by-number (InvalidSet c) = refl
+by-number (InvalidAet c) = refl
+by-number (InvalidAm c) = refl
+by-number (InvalidLd64bIss c) = refl
+by-number Empty = refl
+by-number InvalidDigit = refl
+by-number PosOverflow = refl
+by-number (ShortBuffer c) = refl
+by-number BadField = refl
+by-number (BadIndex c) = refl
+by-number ShortEntry = refl
+by-number BadLength = refl
+by-number BadVersion = refl
+by-number (Unreached c) = refl
+
+-- each of the numbers 0 to 17 is that of its refusal, whatever it carries
+abbrev numbered : ℕ → ℕ → Bool
+numbered c n = eqb (refusalNumber (refusalBy n c)) n
+
+all-numbered : (c : ℕ) → T (from (numbered c) 0 18)
+unfolding refusalBy
+all-numbered c = tt
+
+pub number-by : (n c : ℕ) → n < 18 → refusalNumber (refusalBy n c) ≡ n
+number-by n c h =
+    eqb→eq (refusalNumber (refusalBy n c)) n (subst (λ m. T (numbered c m)) (zero-add n) (from-at (numbered c) 0 18 n (all-numbered c) h))
+
+-- Sets.
+
+-- one record more
+pub push-law : (l : List Record) (x : Record) → length l < setRoom → pushed (recordsOf l) x ≡ recordsOf (l ++ (x ∷ []))
+unfolding recordsOf pushed
+push-law l x h =
+    let n : ℕ = 18 - length l in
+    let e : setRoom - length l ≡ suc n = omega arith in
+    let c : length (l ++ (x ∷ [])) ≡ length l + 1 = length-append l (x ∷ []) in
+    let m : setRoom - length (l ++ (x ∷ [])) ≡ n = omega (arith, c) in
+    rw (lt-ltb (length l) setRoom h)
+    (ap₂ (λ (is : List Record) (k : ℕ). record { items = is; count = k })
+    (ap (λ (k : ℕ). set (l ++ replicate k noRecord) (length l) x) e
+    ∙ set-append-seam l noRecord (replicate n noRecord) x
+    ∙ sym (append-assoc l (x ∷ []) (replicate n noRecord))
+    ∙ ap (λ (k : ℕ). (l ++ (x ∷ [])) ++ replicate k noRecord) (sym m))
+    (sym c))
+
+-- records put on one after the other
+abbrev pub pushedAll : Records → List Record → Records
+pushedAll s [] = s
+pushedAll s (x ∷ xs) = pushedAll (pushed s x) xs
+
+pub pushed-all : (l xs : List Record) → length l + length xs ≤ setRoom → pushedAll (recordsOf l) xs ≡ recordsOf (l ++ xs)
+pushed-all l [] h = ap recordsOf (sym (append-nil l))
+pushed-all l (x ∷ xs) h =
+    let c : length (l ++ (x ∷ [])) ≡ length l + 1 = length-append l (x ∷ []) in
+    ap (λ (s : Records). pushedAll s xs) (push-law l x (omega arith))
+    ∙ pushed-all (l ++ (x ∷ [])) xs (omega (arith, c))
+    ∙ ap recordsOf (append-assoc l (x ∷ []) xs)
+
+-- the records that a set holds
+abbrev pub listOf : Records → List Record
+listOf s = take (s .count) (s .items)
+
+pub list-of : (l : List Record) → listOf (recordsOf l) ≡ l
+unfolding recordsOf
+list-of l = take-append-seam l (replicate (setRoom - length l) noRecord)
+
+-- equal sets hold equal lists
+pub same-list : (l m : List Record) → recordsOf l ≡ recordsOf m → l ≡ m
+same-list l m e = sym (list-of l) ∙ ap listOf e ∙ list-of m

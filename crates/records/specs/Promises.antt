@@ -1,0 +1,45 @@
+-- What each public function promises. A promise takes what comes in, then what comes out.
+use Prim.Native.Nat.{ℕ}
+use mathlib.Core.Bool.{Bool}
+use mathlib.Core.List.{[]}
+use mathlib.Core.Path.{_≡_}
+use lib.Dec.{eqb}
+use Rattle.records.specs.Bits.{fieldOf}
+use Rattle.records.specs.Refusals.{refusalNumber, refusalCarries, refusalBy}
+use Rattle.records.specs.Rows.{recordOf, checkOf}
+use Rattle.records.specs.Sets.{recordsOf, pushed, recordAt}
+use Rattle.records.specs.declared.Record.{Record}
+use Rattle.records.specs.declared.Records.{Records}
+use Rattle.records.specs.declared.Refusal.{Refusal}
+use Rattle.records.specs.declared.Row.{Row}
+
+-- any start and width: bits past 63 are 0, and so is a field of no width
+abbrev pub Field : ℕ × ℕ × ℕ → ℕ → Type 0
+Field (v, start, width) r = r ≡ fieldOf v start width
+
+abbrev pub AsBit : ℕ × ℕ → Bool → Type 0
+AsBit (v, place) r = r ≡ eqb (fieldOf v place 1) 1
+
+abbrev pub Number : Refusal → ℕ → Type 0
+Number refusal r = r ≡ refusalNumber refusal
+
+abbrev pub Carries : Refusal → ℕ → Type 0
+Carries refusal r = r ≡ refusalCarries refusal
+
+abbrev pub Numbered : ℕ × ℕ → Refusal → Type 0
+Numbered (number, carried) r = r ≡ refusalBy number carried
+
+abbrev pub Got : Row × ℕ → Record → Type 0
+Got (row, v) r = r ≡ recordOf v row
+
+abbrev pub Checked : Row × ℕ → Refusal → Type 0
+Checked (row, v) r = r ≡ checkOf v row
+
+abbrev pub Emptied : Unit {0} → Records → Type 0
+Emptied i r = r ≡ recordsOf []
+
+abbrev pub Pushed : Records × Record → Records → Type 0
+Pushed (set, item) r = r ≡ pushed set item
+
+abbrev pub At : Records × ℕ → Record → Type 0
+At (set, index) r = r ≡ recordAt set index

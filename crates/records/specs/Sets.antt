@@ -1,0 +1,26 @@
+-- Sets of records: at most 19, in order, with the empty record in the places behind them.
+use Prim.Native.Nat.{ℕ, _+_, _-_}
+use mathlib.Core.Bool.{cond}
+use mathlib.Core.List.{List, _++_}
+use lib.Dec.{ltb}
+use lib.ListN.{length, getD, replicate, set}
+use Rattle.records.specs.declared.Record.{Record}
+use Rattle.records.specs.declared.Records.{Records}
+
+abbrev pub setRoom : ℕ
+setRoom = 19
+
+abbrev pub noRecord : Record
+noRecord = record { value = 0; name = 0; long = 0; text = 0; start = 0; width = 0 }
+
+-- the set that holds these records
+unfoldable pub recordsOf : List Record → Records
+recordsOf l = record { items = l ++ replicate (setRoom - length l) noRecord; count = length l }
+
+-- one record more; a full set stays as it is
+unfoldable pub pushed : Records → Record → Records
+pushed s x = cond (ltb (s .count) setRoom) (record { items = set (s .items) (s .count) x; count = s .count + 1 }) s
+
+-- the record at an index; the empty record past the last, and past the set's room
+unfoldable pub recordAt : Records → ℕ → Record
+recordAt s i = cond (ltb i (s .count)) (cond (ltb i setRoom) (getD (s .items) i noRecord) noRecord) noRecord

@@ -1,0 +1,116 @@
+-- Each rule's numbers are those computed from its texts: the rules of one bit by one law, each other rule by computing, a number past the
+-- last as no rule.
+use borrow.Author.Needs.{needs}
+use mathlib.Core.Path.{_≡_, refl, sym, ap, _∙_}
+use Prim.Native.Nat.{ℕ}
+use native.Mathlib.Omega.{arith}
+use Rattle.promise.proofs.Tests.{others-le}
+use Rattle.texts.specs.Rules.{rules}
+use Rattle.texts.specs.Pool.{onList, ruleAt, says, placesOf, firstOf}
+use Rattle.texts.specs.Sayings.{bitsOf, numbersOf}
+use Rattle.texts.specs.declared.Saying.{Saying}
+use Rattle.texts.proofs.Numbers.{one-bit, no-rule}
+use Rattle.texts.proofs.in_numbers.Statement.{statement}
+use Rattle.texts.proofs.in_numbers.Tie as tie
+
+arm : (k n : ℕ) (s : Saying) → n ≡ k → s ≡ numbersOf k → s ≡ numbersOf n
+arm k n s e h = h ∙ ap numbersOf (sym e)
+
+returns : tie.Need-returns
+unfolding numbersOf bitsOf says onList ruleAt firstOf placesOf rules
+returns c = arm 0 (c .before .args .rule) _ (omega arith) refl
+
+sub-t3 : tie.Need-sub-t3
+sub-t3 c = search needs
+
+mul-t4 : tie.Need-mul-t4
+mul-t4 c = search needs
+
+add-t5 : tie.Need-add-t5
+add-t5 c = search needs
+
+returns-2 : tie.Need-returns-2
+returns-2 c = one-bit (c .before .before .args .rule) (omega arith) (omega arith)
+
+cast-t7 : tie.Need-cast-t7
+cast-t7 c = search needs
+
+returns-3 : tie.Need-returns-3
+unfolding numbersOf bitsOf says onList ruleAt firstOf placesOf rules
+returns-3 c = arm 32 (c .before .before .before .args .rule) _ (omega arith) refl
+
+returns-4 : tie.Need-returns-4
+unfolding numbersOf bitsOf says onList ruleAt firstOf placesOf rules
+returns-4 c = arm 33 (c .before .before .before .args .rule) _ (omega arith) refl
+
+returns-5 : tie.Need-returns-5
+unfolding numbersOf bitsOf says onList ruleAt firstOf placesOf rules
+returns-5 c = arm 34 (c .before .before .before .args .rule) _ (omega arith) refl
+
+returns-6 : tie.Need-returns-6
+unfolding numbersOf bitsOf says onList ruleAt firstOf placesOf rules
+returns-6 c = arm 35 (c .before .before .before .args .rule) _ (omega arith) refl
+
+returns-7 : tie.Need-returns-7
+unfolding numbersOf bitsOf says onList ruleAt firstOf placesOf rules
+returns-7 c = arm 36 (c .before .before .before .args .rule) _ (omega arith) refl
+
+returns-8 : tie.Need-returns-8
+unfolding numbersOf bitsOf says onList ruleAt firstOf placesOf rules
+returns-8 c = arm 37 (c .before .before .before .args .rule) _ (omega arith) refl
+
+returns-9 : tie.Need-returns-9
+unfolding numbersOf bitsOf says onList ruleAt firstOf placesOf rules
+returns-9 c = arm 38 (c .before .before .before .args .rule) _ (omega arith) refl
+
+returns-10 : tie.Need-returns-10
+unfolding numbersOf bitsOf says onList ruleAt firstOf placesOf rules
+returns-10 c = arm 39 (c .before .before .before .args .rule) _ (omega arith) refl
+
+returns-11 : tie.Need-returns-11
+unfolding numbersOf bitsOf says onList ruleAt firstOf placesOf rules
+returns-11 c = arm 40 (c .before .before .before .args .rule) _ (omega arith) refl
+
+returns-12 : tie.Need-returns-12
+unfolding numbersOf bitsOf says onList ruleAt firstOf placesOf rules
+returns-12 c = arm 41 (c .before .before .before .args .rule) _ (omega arith) refl
+
+returns-13 : tie.Need-returns-13
+unfolding numbersOf bitsOf says onList ruleAt firstOf placesOf rules
+returns-13 c = arm 42 (c .before .before .before .args .rule) _ (omega arith) refl
+
+returns-14 : tie.Need-returns-14
+unfolding numbersOf bitsOf says onList ruleAt firstOf placesOf rules
+returns-14 c = arm 43 (c .before .before .before .args .rule) _ (omega arith) refl
+
+returns-15 : tie.Need-returns-15
+unfolding numbersOf bitsOf says onList ruleAt firstOf placesOf rules
+returns-15 c = arm 44 (c .before .before .before .args .rule) _ (omega arith) refl
+
+returns-16 : tie.Need-returns-16
+returns-16 c = no-rule (c .before .before .before .args .rule) (others-le 32 (c .before .before .before .args .rule) 13 (c .before .if2 .left) (c .match .rest))
+
+pub in-numbers-spec : {M : Type 1} → statement M
+in-numbers-spec =
+    tie.close
+    (tie.spec
+    returns
+    sub-t3
+    mul-t4
+    add-t5
+    returns-2
+    cast-t7
+    returns-3
+    returns-4
+    returns-5
+    returns-6
+    returns-7
+    returns-8
+    returns-9
+    returns-10
+    returns-11
+    returns-12
+    returns-13
+    returns-14
+    returns-15
+    returns-16)

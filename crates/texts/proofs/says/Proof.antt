@@ -1,0 +1,20 @@
+-- The rule's bits say which values it has a text for.
+use mathlib.Core.Path.{ap, _∙_}
+use Rattle.texts.specs.Sayings.{bitIn}
+use Rattle.texts.specs.declared.Saying.{Saying}
+use Rattle.texts.proofs.Numbers.{bit-in}
+use borrow.Author.Needs.{needs}
+use Rattle.texts.proofs.says.Statement.{statement}
+use Rattle.texts.proofs.says.Tie as tie
+
+in-numbers-requires : tie.Need-in-numbers-requires
+in-numbers-requires c κs = search needs
+
+has-requires : tie.Need-has-requires
+has-requires c κs = search needs
+
+returns : tie.Need-returns
+returns c = c .has .ensures ∙ ap (λ (s : Saying). bitIn (s .0) (c .before .before .args .value)) (c .before .in-numbers .ensures) ∙ bit-in (c .before .before .args .rule) (c .before .before .args .value)
+
+pub says-spec : {M : Type 1} → statement M
+says-spec = tie.close (tie.spec in-numbers-requires has-requires returns)

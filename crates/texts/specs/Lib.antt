@@ -1,0 +1,5 @@
+pub mod Names
+pub mod Rules
+pub mod Pool
+pub mod Sayings
+pub mod Promises

@@ -1,0 +1,389 @@
+-- The text rules: what each says of a value. House texts and abort statuses are spelled as 01 has them, the others as the Rust.
+use mathlib.Core.List.{List, [], _∷_}
+use Prim.Native.Nat.{ℕ}
+use Prim.Native.String.{String}
+
+-- a value and its text
+pub record Text : Type 0 where
+  pub value : ℕ
+  pub text : String
+
+infix 70 _says_
+abbrev pub _says_ : ℕ → String → Text
+v says s = record { value = v; text = s }
+
+-- A rule's number, by which a row names it; how many values, from 0 on, have a place in the pool; its texts by rising value.
+pub record Rule : Type 0 where
+  pub number : ℕ
+  pub places : ℕ
+  pub texts : List Text
+
+abbrev pub rule : ℕ → ℕ → List Text → Rule
+rule n p ts = record { number = n; places = p; texts = ts }
+
+-- a rule of one bit: the texts of 1, then of 0, as 01 gives them
+abbrev pub bitRule : ℕ → String → String → Rule
+bitRule n one zero = rule n 2 (0 says zero ∷ 1 says one ∷ [])
+
+-- a field without text
+abbrev pub plain : Rule
+plain = rule 0 0 []
+
+-- IL (mod.rs, describe_il)
+abbrev pub il : Rule
+il = bitRule 1 "32-bit instruction trapped" "16-bit instruction trapped"
+
+-- CV (common.rs, describe_cv)
+abbrev pub cv : Rule
+cv = bitRule 2 "COND is valid" "COND is not valid"
+
+-- RV (wf.rs, describe_rv)
+abbrev pub rv : Rule
+rv = bitRule 3 "RN is valid" "RN is not valid"
+
+-- Direction (mcr.rs, describe_direction)
+abbrev pub mcrDirection : Rule
+mcrDirection = bitRule 4 "Read from system register (MRC or VMRS)" "Write to system register (MCR)"
+
+-- Offset (ldc.rs, describe_offset)
+abbrev pub offsetSign : Rule
+offsetSign = bitRule 5 "Add offset" "Subtract offset"
+
+-- Direction (ldc.rs, describe_direction)
+abbrev pub ldcDirection : Rule
+ldcDirection = bitRule 6 "Read from memory (LDC)" "Write to memory (STC)"
+
+-- IorD (pauth.rs, describe_instruction_or_data)
+abbrev pub iOrD : Rule
+iOrD = bitRule 7 "Data Key" "Instruction Key"
+
+-- AorB (pauth.rs, describe_a_or_b)
+abbrev pub aOrB : Rule
+aOrB = bitRule 8 "B Key" "A Key"
+
+-- TFV (fp.rs, describe_tfv)
+abbrev pub tfv : Rule
+tfv =
+    bitRule 9
+    "One or more floating-point exceptions occurred; IDF, IXF, UFF, OFF, DZF and IOF hold information about what."
+    "IDF, IXF, UFF, OFF, DZF and IOF do not hold valid information."
+
+-- IDF (fp.rs, describe_idf)
+abbrev pub idf : Rule
+idf =
+    bitRule 10
+    "Input denormal floating-point exception occurred."
+    "Input denormal floating-point exception did not occur."
+
+-- IXF (fp.rs, describe_ixf)
+abbrev pub ixf : Rule
+ixf =
+    bitRule 11
+    "Inexact floating-point exception occurred."
+    "Inexact floating-point exception did not occur."
+
+-- UFF (fp.rs, describe_uff)
+abbrev pub uff : Rule
+uff =
+    bitRule 12
+    "Underflow floating-point exception occurred."
+    "Underflow floating-point exception did not occur."
+
+-- OFF (fp.rs, describe_off)
+abbrev pub off : Rule
+off =
+    bitRule 13
+    "Overflow floating-point exception occurred."
+    "Overflow floating-point exception did not occur."
+
+-- DZF (fp.rs, describe_dzf)
+abbrev pub dzf : Rule
+dzf =
+    bitRule 14
+    "Divide by Zero floating-point exception occurred."
+    "Divide by Zero floating-point exception did not occur."
+
+-- IOF (fp.rs, describe_iof)
+abbrev pub iof : Rule
+iof =
+    bitRule 15
+    "Invalid Operation floating-point exception occurred."
+    "Invalid Operation floating-point exception did not occur."
+
+-- ISV of software step (breakpoint.rs, describe_isv)
+abbrev pub stepValid : Rule
+stepValid = bitRule 16 "EX bit is valid" "EX bit is RES0"
+
+-- EX (breakpoint.rs, describe_ex)
+abbrev pub ex : Rule
+ex =
+    bitRule 17
+    "A Load-Exclusive instruction was stepped"
+    "Some instruction other than a Load-Exclusive was stepped"
+
+-- WnR of watchpoint (breakpoint.rs, describe_wnr)
+abbrev pub watchWnR : Rule
+watchWnR = bitRule 18 "Watchpoint caused by writing to memory" "Watchpoint caused by reading from memory"
+
+-- FnV, a house text
+abbrev pub fnv : Rule
+fnv = bitRule 19 "FAR is not valid" "FAR is valid"
+
+-- PFV, a house text
+abbrev pub pfv : Rule
+pfv = bitRule 20 "PFAR is valid" "PFAR is not valid"
+
+-- ISV of data aborts, a house text
+abbrev pub isv : Rule
+isv = bitRule 21 "Instruction syndrome valid" "No instruction syndrome"
+
+-- SF, a house text
+abbrev pub sf : Rule
+sf = bitRule 22 "64-bit register" "32-bit register"
+
+-- AR, a house text
+abbrev pub ar : Rule
+ar = bitRule 23 "Acquire or release" "No acquire or release"
+
+-- FnP, a house text
+abbrev pub fnp : Rule
+fnp = bitRule 24 "FAR is not precise" "FAR is precise"
+
+-- FnP where the status is 0x10 and bit 10 is 1, a house text
+abbrev pub fnpNotValid : Rule
+fnpNotValid = bitRule 25 "FAR is not valid" "FAR is not valid"
+
+-- WnR of aborts and SError, a house text
+abbrev pub wnr : Rule
+wnr = bitRule 26 "Caused by writing" "Caused by reading"
+
+-- IDS (serror.rs, describe_ids)
+abbrev pub ids : Rule
+ids =
+    bitRule 27
+    "The rest of the ISS is encoded in an implementation-defined format"
+    "The rest of the ISS is encoded according to the platform"
+
+-- ELS (serror.rs, describe_els)
+abbrev pub els : Rule
+els =
+    bitRule 28
+    "Synchronous, the exception was triggered by the instruction at ELR_ELx"
+    "Asynchronous, does not indicate the trigger for the exception"
+
+-- VFV (serror.rs, describe_vfv)
+abbrev pub vfv : Rule
+vfv =
+    bitRule 29
+    "FAR_ELx contains a valid virtual address associated with the error"
+    "FAR_ELx is not valid, it holds an unknown value"
+
+-- IESB (serror.rs, describe_iesb)
+abbrev pub iesb : Rule
+iesb =
+    bitRule 30
+    "The SError interrupt was synchronized by the implicit error synchronization event and taken immediately."
+    "The SError interrupt was not synchronized by the implicit error synchronization event or not taken immediately."
+
+-- WnRV (serror.rs, describe_wnrv)
+abbrev pub wnrv : Rule
+wnrv = bitRule 31 "WnR is valid" "WnR is not valid and has been set to 0"
+
+-- RES0 of a class whose ISS is reserved (mod.rs, decode_iss_res0)
+abbrev pub issRes0 : Rule
+issRes0 =
+    rule 32 1 (
+    0 says "ISS is RES0" ∷
+    [])
+
+-- EC (mod.rs, decode): the class text. 35 classes of 64
+abbrev pub className : Rule
+className =
+    rule 33 64 (
+    0x00 says "Unknown reason" ∷
+    0x01 says "Wrapped WF* instruction execution" ∷
+    0x03 says "Trapped MCR or MRC access with coproc=0b1111" ∷
+    0x04 says "Trapped MCRR or MRRC access with coproc=0b1111" ∷
+    0x05 says "Trapped MCR or MRC access with coproc=0b1110" ∷
+    0x06 says "Trapped LDC or STC access" ∷
+    0x07 says "Trapped access to SVE, Advanced SIMD or floating point" ∷
+    0x0A says "Trapped execution of an LD64B, ST64B, ST64BV, or ST64BV0 instruction" ∷
+    0x0C says "Trapped MRRC access with (coproc==0b1110)" ∷
+    0x0D says "Branch Target Exception" ∷
+    0x0E says "Illegal Execution state" ∷
+    0x11 says "SVC instruction execution in AArch32 state" ∷
+    0x15 says "SVC instruction execution in AArch64 state" ∷
+    0x16 says "HVC instruction execution in AArch64 state" ∷
+    0x17 says "SMC instruction execution in AArch64 state" ∷
+    0x18 says "Trapped MSR, MRS or System instruction execution in AArch64 state" ∷
+    0x19 says "Access to SVE functionality trapped as a result of CPACR_EL1.ZEN, CPTR_EL2.ZEN, CPTR_EL2.TZ, or CPTR_EL3.EZ" ∷
+    0x1C says "Exception from a Pointer Authentication instruction authentication failure" ∷
+    0x20 says "Instruction Abort from a lower Exception level" ∷
+    0x21 says "Instruction Abort taken without a change in Exception level" ∷
+    0x22 says "PC alignment fault exception" ∷
+    0x24 says "Data Abort from a lower Exception level" ∷
+    0x25 says "Data Abort taken without a change in Exception level" ∷
+    0x26 says "SP alignment fault exception" ∷
+    0x28 says "Trapped floating-point exception taken from AArch32 state" ∷
+    0x2C says "Trapped floating-point exception taken from AArch64 state" ∷
+    0x2F says "SError interrupt" ∷
+    0x30 says "Breakpoint exception from a lower Exception level" ∷
+    0x31 says "Breakpoint exception taken without a change in Exception level" ∷
+    0x32 says "Software Step exception from a lower Exception level" ∷
+    0x33 says "Software Step exception taken without a change in Exception level" ∷
+    0x34 says "Watchpoint exception from a lower Exception level" ∷
+    0x35 says "Watchpoint exception taken without a change in Exception level" ∷
+    0x38 says "BKPT instruction execution in AArch32 state" ∷
+    0x3C says "BRK instruction execution in AArch64 state" ∷
+    [])
+
+-- TI (wf.rs, describe_ti)
+abbrev pub ti : Rule
+ti =
+    rule 34 4 (
+    0 says "WFI trapped" ∷
+    1 says "WFE trapped" ∷
+    2 says "WFIT trapped" ∷
+    3 says "WFET trapped" ∷
+    [])
+
+-- AM (ldc.rs, describe_am); 5 and 7 are not on the list
+abbrev pub am : Rule
+am =
+    rule 35 8 (
+    0 says "Immediate unindexed" ∷
+    1 says "Immediate post-indexed" ∷
+    2 says "Immediate offset" ∷
+    3 says "Immediate pre-indexed" ∷
+    4 says "Reserved for trapped STR or T32 LDC" ∷
+    6 says "Reserved for trapped STC" ∷
+    [])
+
+-- ISS of 0x0A (ld64b.rs, describe_iss_ld64b)
+abbrev pub ld64bIss : Rule
+ld64bIss =
+    rule 36 3 (
+    0 says "ST64BV trapped" ∷
+    1 says "ST64BV0 trapped" ∷
+    2 says "LD64B or ST64B trapped" ∷
+    [])
+
+-- the status of the debug layouts (breakpoint.rs, describe_fsc)
+abbrev pub debugStatus : Rule
+debugStatus =
+    rule 37 64 (
+    0x22 says "Debug exception" ∷
+    [])
+
+-- the status of aborts: 01's list of 42, its words with the first letter large and ", level N" where there is a level
+abbrev pub faultStatus : Rule
+faultStatus =
+    rule 38 64 (
+    0x00 says "Address size fault, level 0" ∷
+    0x01 says "Address size fault, level 1" ∷
+    0x02 says "Address size fault, level 2" ∷
+    0x03 says "Address size fault, level 3" ∷
+    0x04 says "Translation fault, level 0" ∷
+    0x05 says "Translation fault, level 1" ∷
+    0x06 says "Translation fault, level 2" ∷
+    0x07 says "Translation fault, level 3" ∷
+    0x08 says "Access flag fault, level 0" ∷
+    0x09 says "Access flag fault, level 1" ∷
+    0x0A says "Access flag fault, level 2" ∷
+    0x0B says "Access flag fault, level 3" ∷
+    0x0C says "Permission fault, level 0" ∷
+    0x0D says "Permission fault, level 1" ∷
+    0x0E says "Permission fault, level 2" ∷
+    0x0F says "Permission fault, level 3" ∷
+    0x10 says "External abort" ∷
+    0x11 says "Tag check fault" ∷
+    0x13 says "External abort on table walk, level -1" ∷
+    0x14 says "External abort on table walk, level 0" ∷
+    0x15 says "External abort on table walk, level 1" ∷
+    0x16 says "External abort on table walk, level 2" ∷
+    0x17 says "External abort on table walk, level 3" ∷
+    0x18 says "Parity or ECC error" ∷
+    0x1B says "Parity or ECC error on table walk, level -1" ∷
+    0x1C says "Parity or ECC error on table walk, level 0" ∷
+    0x1D says "Parity or ECC error on table walk, level 1" ∷
+    0x1E says "Parity or ECC error on table walk, level 2" ∷
+    0x1F says "Parity or ECC error on table walk, level 3" ∷
+    0x21 says "Alignment fault" ∷
+    0x23 says "Granule protection fault on table walk, level -1" ∷
+    0x24 says "Granule protection fault on table walk, level 0" ∷
+    0x25 says "Granule protection fault on table walk, level 1" ∷
+    0x26 says "Granule protection fault on table walk, level 2" ∷
+    0x27 says "Granule protection fault on table walk, level 3" ∷
+    0x28 says "Granule protection fault" ∷
+    0x29 says "Address size fault, level -1" ∷
+    0x2B says "Translation fault, level -1" ∷
+    0x30 says "TLB conflict abort" ∷
+    0x31 says "Unsupported atomic hardware update" ∷
+    0x34 says "Lockdown" ∷
+    0x35 says "Unsupported exclusive or atomic access" ∷
+    [])
+
+-- SET (abort.rs, describe_set); 1 is not on the list
+abbrev pub setType : Rule
+setType =
+    rule 39 4 (
+    0 says "Recoverable state (UER)" ∷
+    2 says "Uncontainable (UC)" ∷
+    3 says "Restartable state (UEO)" ∷
+    [])
+
+-- SAS (abort.rs, SyndromeAccessSize)
+abbrev pub sas : Rule
+sas =
+    rule 40 4 (
+    0 says "byte" ∷
+    1 says "halfword" ∷
+    2 says "word" ∷
+    3 says "doubleword" ∷
+    [])
+
+-- WU (abort.rs, describe_wu)
+abbrev pub wu : Rule
+wu =
+    rule 41 4 (
+    0 says "Not a store instruction or translation table update, or the location might have been updated" ∷
+    1 says "Reserved" ∷
+    2 says "Store instruction or translation table update that did not update the location" ∷
+    3 says "Store instruction or translation table update that updated the location" ∷
+    [])
+
+-- AET (serror.rs, describe_aet); 4, 5 and 7 are not on the list
+abbrev pub aet : Rule
+aet =
+    rule 42 8 (
+    0 says "Uncontainable (UC)" ∷
+    1 says "Unrecoverable state (UEU)" ∷
+    2 says "Restartable state (UEO)" ∷
+    3 says "Recoverable state (UER)" ∷
+    6 says "Corrected (CE)" ∷
+    [])
+
+-- the status of SError (serror.rs, describe_dfsc)
+abbrev pub serrorStatus : Rule
+serrorStatus =
+    rule 43 64 (
+    0x00 says "Uncategorized error" ∷
+    0x11 says "Asynchronous SError interrupt" ∷
+    [])
+
+-- WnR of SError where WnRV is 0 (serror.rs, decode_iss_serror)
+abbrev pub wnrNotValid : Rule
+wnrNotValid =
+    rule 44 1 (
+    0 says "Not valid (see WnRV)" ∷
+    [])
+
+unfoldable pub rules : List Rule
+rules =
+    plain ∷ il ∷ cv ∷ rv ∷ mcrDirection ∷ offsetSign ∷ ldcDirection ∷ iOrD ∷
+    aOrB ∷ tfv ∷ idf ∷ ixf ∷ uff ∷ off ∷ dzf ∷ iof ∷
+    stepValid ∷ ex ∷ watchWnR ∷ fnv ∷ pfv ∷ isv ∷ sf ∷ ar ∷
+    fnp ∷ fnpNotValid ∷ wnr ∷ ids ∷ els ∷ vfv ∷ iesb ∷ wnrv ∷
+    issRes0 ∷ className ∷ ti ∷ am ∷ ld64bIss ∷ debugStatus ∷ faultStatus ∷ setType ∷
+    sas ∷ wu ∷ aet ∷ serrorStatus ∷ wnrNotValid ∷
+    []
