@@ -61,3 +61,16 @@ Others a n (suc k) = Others a n k × (n ≡ a + k → ⊥)
 pub others-le : (a n k : ℕ) → a ≤ n → Others a n k → a + k ≤ n
 others-le a n zero l o = omega arith
 others-le a n (suc k) l o = let h : n ≡ a + k → ⊥ = o .1 in omega (arith, others-le a n k l (o .0))
+
+-- the values of f from i on, n of them: what a constant array lists
+abbrev pub tab : (ℕ → ℕ) → ℕ → ℕ → List ℕ
+tab f i zero = []
+tab f i (suc n) = f i ∷ tab f (suc i) n
+
+tab-from : (f : ℕ → ℕ) (i n k : ℕ) → k < n → getD (tab f i n) k 0 ≡ f (i + k)
+tab-from f i zero k h = absurd (not-suc-le-zero h)
+tab-from f i (suc n) zero h = sym (ap f (add-zero i))
+tab-from f i (suc n) (suc k) h = tab-from f (suc i) n k (le-of-suc-le-suc h) ∙ ap f (suc-add i k ∙ sym (add-suc i k))
+
+pub tab-at : (f : ℕ → ℕ) (n k : ℕ) → k < n → getD (tab f 0 n) k 0 ≡ f k
+tab-at f n k h = tab-from f 0 n k h ∙ ap f (zero-add k)

@@ -14,7 +14,7 @@ use borrow.Author.Tests.{lt-ltb}
 use Rattle.promise.proofs.Tests.{from, from-at}
 use Rattle.records.specs.Bits.{fieldOf}
 use Rattle.records.specs.Refusals.{refusalNumber, refusalCarries, refusals, refusalBy}
-use Rattle.records.specs.Sets.{setRoom, noRecord, recordsOf, pushed, recordAt}
+use Rattle.records.specs.Sets.{setRoom, noRecord, recordsOf, pushed, pushedAll}
 use Rattle.records.specs.declared.Record.{Record}
 use Rattle.records.specs.declared.Records.{Records}
 use Rattle.records.specs.declared.Refusal.{Refusal}
@@ -111,17 +111,31 @@ push-law l x h =
     (sym c))
 
 -- records put on one after the other
-abbrev pub pushedAll : Records → List Record → Records
-pushedAll s [] = s
-pushedAll s (x ∷ xs) = pushedAll (pushed s x) xs
-
 pub pushed-all : (l xs : List Record) → length l + length xs ≤ setRoom → pushedAll (recordsOf l) xs ≡ recordsOf (l ++ xs)
+unfolding pushedAll
 pushed-all l [] h = ap recordsOf (sym (append-nil l))
 pushed-all l (x ∷ xs) h =
     let c : length (l ++ (x ∷ [])) ≡ length l + 1 = length-append l (x ∷ []) in
     ap (λ (s : Records). pushedAll s xs) (push-law l x (omega arith))
     ∙ pushed-all (l ++ (x ∷ [])) xs (omega (arith, c))
     ∙ ap recordsOf (append-assoc l (x ∷ []) xs)
+
+pub pushed-last : (s : Records) (xs : List Record) (x : Record) → pushedAll s (xs ++ (x ∷ [])) ≡ pushed (pushedAll s xs) x
+unfolding pushedAll
+pushed-last s [] x = refl
+pushed-last s (y ∷ ys) x = pushed-last (pushed s y) ys x
+
+-- one record written in its place, and counted, is one record more
+pub written : (s : Records) (x : Record) → s .count < setRoom → record { items = set (s .items) (s .count) x; count = s .count + 1 } ≡ pushed s x
+unfolding pushed
+written s x h = rw (lt-ltb (s .count) setRoom h) refl
+
+pub pushed-count : (s : Records) (xs : List Record) → s .count + length xs ≤ setRoom → pushedAll s xs .count ≡ s .count + length xs
+unfolding pushedAll
+pushed-count s [] h = omega arith
+pushed-count s (y ∷ ys) h =
+    let one : pushed s y .count ≡ s .count + 1 = ap (λ (r : Records). r .count) (sym (written s y (omega arith))) in
+    omega (arith, pushed-count (pushed s y) ys (omega arith), one)
 
 -- the records that a set holds
 abbrev pub listOf : Records → List Record

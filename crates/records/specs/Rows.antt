@@ -5,8 +5,6 @@ use lib.Dec.{eqb}
 use Rattle.texts.specs.Pool.{says, textCode}
 use Rattle.records.specs.Bits.{fieldOf}
 use Rattle.records.specs.Refusals.{refusalBy}
-use Rattle.records.specs.declared.Kind.{Kind}
-use Rattle.records.specs.declared.Kind.the-variants.{Free, Coded, Checked, Unchecked}
 use Rattle.records.specs.declared.Record.{Record}
 use Rattle.records.specs.declared.Refusal.{Refusal}
 use Rattle.records.specs.declared.Refusal.the-variants.{None, InvalidRes0}
@@ -20,19 +18,33 @@ unfoldable pub recordOf : ℕ → Row → Record
 recordOf v r =
     record {
       value = valueIn v r;
-      name = r .2 .0;
-      long = r .2 .1;
-      text = textCode (r .3) (valueIn v r);
+      name = r .2;
+      long = r .3;
+      text = textCode (r .4) (valueIn v r);
       start = r .0;
       width = r .1;
     }
 
+-- The kinds of a row, as numbers: free; coded, on the list of its text rule or refused by this number; reserved and checked; reserved and
+-- unchecked. 1 is the number of the refusal of a reserved field that is not 0.
+abbrev pub free : ℕ
+free = 0
+
+abbrev pub coded : ℕ → ℕ
+coded number = number
+
+abbrev pub checked : ℕ
+checked = 1
+
+abbrev pub unchecked : ℕ
+unchecked = 255
+
 -- what a kind asks of a value under a text rule
-abbrev pub asked : Kind → ℕ → ℕ → Refusal
-asked Free rule value = None
-asked (Coded number) rule value = cond (says rule value) None (refusalBy number value)
-asked Checked rule value = cond (eqb value 0) None (InvalidRes0 value)
-asked Unchecked rule value = None
+abbrev pub asked : ℕ → ℕ → ℕ → Refusal
+asked kind rule value =
+    cond (eqb kind free) None
+    (cond (eqb kind unchecked) None
+    (cond (eqb kind checked) (cond (eqb value 0) None (InvalidRes0 value)) (cond (says rule value) None (refusalBy kind value))))
 
 unfoldable pub checkOf : ℕ → Row → Refusal
-checkOf v r = asked (r .4) (r .3) (valueIn v r)
+checkOf v r = asked (r .5) (r .4) (valueIn v r)

@@ -2,7 +2,8 @@
 ghost use Rattle.records.specs.Promises.{AsBit, At, Carries, Checked, Emptied, Field, Got, Number, Numbered, Pushed};
 ghost use Rattle.records.specs.Sets.{noRecord};
 ghost use mathlib.Core.Path.{_≡_};
-use texts::names::Name;
+
+pub mod kinds;
 
 pub fn field(v: u64, start: u8, width: u8) -> u64
     ensures { λ r. ⌜ Field (v, start, width) r ⌝ }
@@ -127,17 +128,8 @@ impl Refusal {
     }
 }
 
-// What is asked of a field's value: nothing; that its text rule lists it, or it is refused by this number; that it is 0; nothing,
-// though it is reserved.
-pub enum Kind {
-    Free,
-    Coded(u8),
-    Checked,
-    Unchecked,
-}
-
-// A row of a layout: start, width, name, text rule, kind. Ten bytes with no gap, so that rows are copied as one block.
-pub struct Row(pub u8, pub u8, pub Name, pub u16, pub Kind);
+// A row of a layout: start, width, name, long name, text rule, kind. Eight bytes with no gap, so that rows are copied as one block.
+pub struct Row(pub u8, pub u8, pub u16, pub u16, pub u8, pub u8);
 
 // A row's field of a value, as the Rust's FieldInfo. Sixteen bytes with no gap.
 pub struct Record {
@@ -155,12 +147,11 @@ impl Row {
         ensures { λ r. ⌜ Got (self, v) r ⌝ }
     {
         let value = field(v, self.0, self.1);
-        let name = self.2;
         Record {
             value,
-            name: name.0,
-            long: name.1,
-            text: texts::text_code(self.3, value),
+            name: self.2,
+            long: self.3,
+            text: texts::text_code(self.4, value),
             start: self.0,
             width: self.1,
         }
@@ -170,25 +161,24 @@ impl Row {
     pub fn check(self, v: u64) -> Refusal
         ensures { λ r. ⌜ Checked (self, v) r ⌝ }
     {
-        let kind = self.4;
-        match kind {
-            Kind::Free => Refusal::None,
-            Kind::Coded(number) => {
-                let value = field(v, self.0, self.1);
-                if texts::says(self.3, value) {
-                    return Refusal::None;
-                }
-                Refusal::numbered(number, value)
-            }
-            Kind::Checked => {
-                let value = field(v, self.0, self.1);
-                if value == 0 {
-                    return Refusal::None;
-                }
-                Refusal::InvalidRes0(value)
-            }
-            Kind::Unchecked => Refusal::None,
+        let kind = self.5;
+        if kind == kinds::FREE {
+            return Refusal::None;
         }
+        if kind == kinds::UNCHECKED {
+            return Refusal::None;
+        }
+        let value = field(v, self.0, self.1);
+        if kind == kinds::CHECKED {
+            if value == 0 {
+                return Refusal::None;
+            }
+            return Refusal::InvalidRes0(value);
+        }
+        if texts::says(self.4, value) {
+            return Refusal::None;
+        }
+        Refusal::numbered(kind, value)
     }
 }
 

@@ -42,16 +42,16 @@ abbrev pub rv : Rule
 rv = bitRule 3 "RN is valid" "RN is not valid"
 
 -- Direction (mcr.rs, describe_direction)
-abbrev pub mcrDirection : Rule
-mcrDirection = bitRule 4 "Read from system register (MRC or VMRS)" "Write to system register (MCR)"
+abbrev pub mcrRead : Rule
+mcrRead = bitRule 4 "Read from system register (MRC or VMRS)" "Write to system register (MCR)"
 
 -- Offset (ldc.rs, describe_offset)
 abbrev pub offsetSign : Rule
 offsetSign = bitRule 5 "Add offset" "Subtract offset"
 
 -- Direction (ldc.rs, describe_direction)
-abbrev pub ldcDirection : Rule
-ldcDirection = bitRule 6 "Read from memory (LDC)" "Write to memory (STC)"
+abbrev pub ldcRead : Rule
+ldcRead = bitRule 6 "Read from memory (LDC)" "Write to memory (STC)"
 
 -- IorD (pauth.rs, describe_instruction_or_data)
 abbrev pub iOrD : Rule
@@ -380,7 +380,7 @@ wnrNotValid =
 
 unfoldable pub rules : List Rule
 rules =
-    plain ∷ il ∷ cv ∷ rv ∷ mcrDirection ∷ offsetSign ∷ ldcDirection ∷ iOrD ∷
+    plain ∷ il ∷ cv ∷ rv ∷ mcrRead ∷ offsetSign ∷ ldcRead ∷ iOrD ∷
     aOrB ∷ tfv ∷ idf ∷ ixf ∷ uff ∷ off ∷ dzf ∷ iof ∷
     stepValid ∷ ex ∷ watchWnR ∷ fnv ∷ pfv ∷ isv ∷ sf ∷ ar ∷
     fnp ∷ fnpNotValid ∷ wnr ∷ ids ∷ els ∷ vfv ∷ iesb ∷ wnrv ∷

@@ -76,14 +76,14 @@ pub fn byte_of(code: u16, i: usize) -> u8
 struct Saying(u64, u16);
 
 // A match, and no table: a table would be built at each call.
-fn in_numbers(rule: u16) -> Saying
+fn in_numbers(rule: u8) -> Saying
     ensures { λ r. ⌜ r ≡ numbersOf rule ⌝ }
 {
     if rule == rules::PLAIN {
         return Saying(0, pool::BIT_FIRST);
     }
     if rule < rules::ISS_RES0 {
-        return Saying(3, pool::BIT_FIRST + 2 * (rule - 1));
+        return Saying(3, pool::BIT_FIRST + 2 * (rule as u16 - 1));
     }
     match rule {
         rules::ISS_RES0 => Saying(1, pool::ISS_RES0_FIRST),
@@ -109,14 +109,14 @@ fn has(values: u64, value: u64) -> bool
     value < 64 && (values >> value) & 1 == 1
 }
 
-pub fn says(rule: u16, value: u64) -> bool
+pub fn says(rule: u8, value: u64) -> bool
     ensures { λ r. ⌜ Says (rule, value) r ⌝ }
 {
     let s = in_numbers(rule);
     has(s.0, value)
 }
 
-pub fn text_code(rule: u16, value: u64) -> u16
+pub fn text_code(rule: u8, value: u64) -> u16
     ensures { λ r. ⌜ TextCode (rule, value) r ⌝ }
 {
     let s = in_numbers(rule);

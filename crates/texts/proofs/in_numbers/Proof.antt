@@ -20,20 +20,20 @@ returns : tie.Need-returns
 unfolding numbersOf bitsOf says onList ruleAt firstOf placesOf rules
 returns c = arm 0 (c .before .args .rule) _ (omega arith) refl
 
-sub-t3 : tie.Need-sub-t3
-sub-t3 c = search needs
+sub-t4 : tie.Need-sub-t4
+sub-t4 c = search needs
 
-mul-t4 : tie.Need-mul-t4
-mul-t4 c = search needs
+mul-t5 : tie.Need-mul-t5
+mul-t5 c = search needs
 
-add-t5 : tie.Need-add-t5
-add-t5 c = search needs
+add-t6 : tie.Need-add-t6
+add-t6 c = search needs
 
 returns-2 : tie.Need-returns-2
 returns-2 c = one-bit (c .before .before .args .rule) (omega arith) (omega arith)
 
-cast-t7 : tie.Need-cast-t7
-cast-t7 c = search needs
+cast-t8 : tie.Need-cast-t8
+cast-t8 c = search needs
 
 returns-3 : tie.Need-returns-3
 unfolding numbersOf bitsOf says onList ruleAt firstOf placesOf rules
@@ -95,11 +95,11 @@ in-numbers-spec =
     tie.close
     (tie.spec
     returns
-    sub-t3
-    mul-t4
-    add-t5
+    sub-t4
+    mul-t5
+    add-t6
     returns-2
-    cast-t7
+    cast-t8
     returns-3
     returns-4
     returns-5

@@ -1,0 +1,8 @@
+-- What the public function promises. A promise takes what comes in, then what comes out.
+use Prim.Native.Nat.{ℕ}
+use mathlib.Core.Path.{_≡_}
+use Rattle.esr.specs.Decode.{answerOf}
+use Rattle.esr.specs.declared.Answer.{Answer}
+
+abbrev pub Decoded : ℕ → Answer → Type 0
+Decoded esr r = r ≡ answerOf esr

@@ -1,0 +1,204 @@
+// The decoder: the class table, the top rows, the checks in order, the walk from high bits to low.
+ghost use Prim.Native.Nat.{_<_};
+ghost use Rattle.esr.specs.Decode.{layoutNumber, refused, tableAnswer, topRows};
+ghost use Rattle.esr.specs.Promises.{Decoded};
+ghost use Rattle.esr.specs.Steps.{Fits, firstLaid, walked};
+ghost use Rattle.layouts.specs.Tables.{tableOf};
+ghost use Rattle.records.specs.Bits.{fieldOf};
+ghost use Rattle.records.specs.Rows.{recordOf};
+ghost use Rattle.records.specs.Sets.{recordsOf};
+ghost use mathlib.Core.List.{map};
+ghost use mathlib.Core.Path.{_≡_};
+use layouts::Layout;
+use layouts::numbers;
+use records::Records;
+use records::Refusal;
+use records::Row;
+use records::kinds as k;
+use texts::names as n;
+use texts::rules as r;
+
+// A refusal and no records, or the records.
+pub struct Answer {
+    pub refusal: Refusal,
+    pub records: Records,
+}
+
+// The mark of a class without a layout.
+const EMPTY: u8 = 255;
+
+// The number of each class's layout, by class.
+const CLASS: [u8; 64] = [
+    numbers::RES0,
+    numbers::WF,
+    EMPTY,
+    numbers::MCR,
+    numbers::MCRR,
+    numbers::MCR,
+    numbers::LDC,
+    numbers::SVE,
+    EMPTY,
+    EMPTY,
+    numbers::LD64B,
+    EMPTY,
+    numbers::MCRR,
+    numbers::BTI,
+    numbers::RES0,
+    EMPTY,
+    EMPTY,
+    numbers::HVC,
+    EMPTY,
+    EMPTY,
+    EMPTY,
+    numbers::HVC,
+    numbers::HVC,
+    numbers::HVC,
+    numbers::UNDIVIDED,
+    numbers::RES0,
+    EMPTY,
+    EMPTY,
+    numbers::PAUTH,
+    EMPTY,
+    EMPTY,
+    EMPTY,
+    numbers::INSTRUCTION_ABORT,
+    numbers::INSTRUCTION_ABORT,
+    numbers::RES0,
+    EMPTY,
+    numbers::DATA_ABORT,
+    numbers::DATA_ABORT,
+    numbers::RES0,
+    EMPTY,
+    numbers::FP,
+    EMPTY,
+    EMPTY,
+    EMPTY,
+    numbers::FP,
+    EMPTY,
+    EMPTY,
+    numbers::SERROR,
+    numbers::BREAKPOINT,
+    numbers::BREAKPOINT,
+    numbers::SOFTWARE_STEP,
+    numbers::SOFTWARE_STEP,
+    numbers::WATCHPOINT,
+    numbers::WATCHPOINT,
+    EMPTY,
+    EMPTY,
+    numbers::BRK,
+    EMPTY,
+    EMPTY,
+    EMPTY,
+    numbers::BRK,
+    EMPTY,
+    EMPTY,
+    EMPTY,
+];
+
+const RES0: Row = Row(37, 27, n::RES0, n::RES0_LONG, r::PLAIN, k::CHECKED);
+
+const ISS2: Row = Row(32, 5, n::ISS2, n::NONE, r::PLAIN, k::FREE);
+
+const EC: Row = Row(26, 6, n::EC, n::EC_LONG, r::CLASS_NAME, k::EC);
+
+const IL: Row = Row(25, 1, n::IL, n::IL_LONG, r::IL, k::FREE);
+
+fn layout_number(class: usize) -> u8
+    requires { ⌜ class < 64 ⌝ }
+    ensures { λ r. ⌜ r ≡ layoutNumber class ⌝ }
+{
+    CLASS[class]
+}
+
+fn refuse(refusal: Refusal) -> Answer
+    ensures { λ r. ⌜ r ≡ refused refusal ⌝ }
+{
+    let none = Records::empty();
+    Answer {
+        refusal,
+        records: none,
+    }
+}
+
+// The records above ISS's own; the layout says how ISS's text is found.
+fn top_records(esr: u64, rule: u8) -> Records
+    ensures { λ r. ⌜ r ≡ recordsOf (map (recordOf esr) (topRows rule)) ⌝ }
+{
+    let iss = Row(0, 25, n::ISS, n::ISS_LONG, rule, k::FREE);
+    let mut out = Records::empty();
+    out.items[0] = RES0.get(esr);
+    out.items[1] = ISS2.get(esr);
+    out.items[2] = EC.get(esr);
+    out.items[3] = IL.get(esr);
+    out.items[4] = iss.get(esr);
+    out.count = 5;
+    out
+}
+
+// What the first row that refuses its field answers, in the order of the checks.
+fn first_failure(layout: Layout, iss: u64) -> Refusal
+    requires { ⌜ Fits layout ⌝ }
+    ensures { λ r. ⌜ r ≡ firstLaid iss layout ⌝ }
+{
+    let mut i: usize = 0;
+    while i < layout.checked {
+        let place = layout.checks[i] as usize;
+        let row = layout.rows[place];
+        let refusal = row.check(iss);
+        if refusal.number() != 0 {
+            return refusal;
+        }
+        i += 1;
+    }
+    Refusal::None
+}
+
+// ISS's own records behind the top ones, from high bits to low, each written where it stays.
+fn walk(top: Records, layout: Layout, iss: u64) -> Records
+    requires { ⌜ Fits layout × (top .count ≡ 5) ⌝ }
+    ensures { λ r. ⌜ r ≡ walked top iss layout ⌝ }
+{
+    let mut out = top;
+    let mut i: usize = 0;
+    while i < layout.count {
+        let row = layout.rows[i];
+        let item = row.get(iss);
+        let at = out.count;
+        out.items[at] = item;
+        out.count = at + 1;
+        i += 1;
+    }
+    out
+}
+
+fn read(esr: u64, number: u8) -> Answer
+    ensures { λ r. ⌜ r ≡ tableAnswer (tableOf number) esr (fieldOf esr 0 25) ⌝ }
+{
+    let iss = records::field(esr, 0, 25);
+    let layout = layouts::layout_of(number, iss);
+    let refusal = first_failure(layout, iss);
+    if refusal.number() != 0 {
+        return refuse(refusal);
+    }
+    let top = top_records(esr, layout.rule);
+    let all = walk(top, layout, iss);
+    Answer {
+        refusal: Refusal::None,
+        records: all,
+    }
+}
+
+pub fn decode(esr: u64) -> Answer
+    ensures { λ r. ⌜ Decoded esr r ⌝ }
+{
+    let reserved = RES0.check(esr);
+    if reserved.number() != 0 {
+        return refuse(reserved);
+    }
+    let class = records::field(esr, 26, 6);
+    let number = layout_number(class as usize);
+    if number == EMPTY {
+        return refuse(Refusal::InvalidEc(class));
+    }
+    read(esr, number)
+}

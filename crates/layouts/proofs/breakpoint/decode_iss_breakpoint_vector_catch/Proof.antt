@@ -1,0 +1,15 @@
+-- No row of the table has a condition: the constant is the table's layout, by computing.
+use mathlib.Core.Path.{refl}
+use Rattle.texts.specs.Names.{names}
+use Rattle.texts.specs.Pool.{code, placeIn}
+use Rattle.layouts.specs.Layouts.{layoutFor, rowsFor, checksFor}
+use Rattle.layouts.specs.Tables.{breakpoint}
+use Rattle.layouts.proofs.breakpoint.decode_iss_breakpoint_vector_catch.Statement.{statement}
+use Rattle.layouts.proofs.breakpoint.decode_iss_breakpoint_vector_catch.Tie as tie
+
+returns : tie.Need-returns
+unfolding layoutFor rowsFor checksFor breakpoint code placeIn names
+returns c = refl
+
+pub decode-iss-breakpoint-vector-catch-spec : {M : Type 1} → statement M
+decode-iss-breakpoint-vector-catch-spec = tie.close (tie.spec returns)

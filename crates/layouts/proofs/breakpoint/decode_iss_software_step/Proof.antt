@@ -1,0 +1,41 @@
+-- By the answer of the one test, bit 24.
+use borrow.Author.Needs.{needs}
+use mathlib.Core.Path.{_≡_, refl, sym, _∙_}
+use mathlib.Core.Bool.{Bool, true, false}
+use mathlib.Core.List.{List, [], _∷_}
+use Prim.Native.Nat.{ℕ}
+use Rattle.texts.specs.Names.{names}
+use Rattle.texts.specs.Pool.{code, placeIn}
+use Rattle.layouts.specs.Shape.{Test, isSet, isStatus, isExternal}
+use Rattle.layouts.specs.Layouts.{layoutFor, passes}
+use Rattle.layouts.specs.Tables.{softwareStep}
+use Rattle.layouts.proofs.Laws.{layout-at, passes-one, fails-one, passes-bit, passes-external}
+use Rattle.layouts.proofs.breakpoint.decode_iss_software_step.Statement.{statement}
+use Rattle.layouts.proofs.breakpoint.decode_iss_software_step.Tie as tie
+
+abbrev tests : List Test
+tests = isSet 24 ∷ []
+
+as-bit-requires : tie.Need-as-bit-requires
+as-bit-requires c κs = search needs
+
+returns : tie.Need-returns
+unfolding softwareStep code placeIn names
+returns c =
+    let v : ℕ = c .before .before .args .iss in
+    layout-at softwareStep tests tt v (true ∷ []) (
+      passes-bit v 24 _ true (c .before .as-bit .ensures) (c .if1 .taken),
+      tt,
+    )
+
+returns-2 : tie.Need-returns-2
+unfolding softwareStep code placeIn names
+returns-2 c =
+    let v : ℕ = c .before .before .args .iss in
+    layout-at softwareStep tests tt v (false ∷ []) (
+      passes-bit v 24 _ false (c .before .as-bit .ensures) (c .if1 .left),
+      tt,
+    )
+
+pub decode-iss-software-step-spec : {M : Type 1} → statement M
+decode-iss-software-step-spec = tie.close (tie.spec as-bit-requires returns returns-2)

@@ -1,0 +1,4 @@
+pub mod Shape
+pub mod Tables
+pub mod Layouts
+pub mod Promises

@@ -1,0 +1,265 @@
+// The layouts of instruction and data aborts.
+ghost use Rattle.layouts.specs.Layouts.{layoutFor, member};
+ghost use Rattle.layouts.specs.Shape.{externals};
+ghost use Rattle.layouts.specs.Tables.{dataAbort, instructionAbort};
+ghost use mathlib.Core.Path.{_≡_};
+use crate::Layout;
+use crate::PAD;
+use records::Row;
+use records::kinds as k;
+use texts::names as n;
+use texts::rules as r;
+
+const INSTRUCTION_ABORT_SET: Layout = Layout {
+    rows: [
+        Row(15, 10, n::RES0, n::RES0_LONG, r::PLAIN, k::CHECKED),
+        Row(14, 1, n::PFV, n::PFV_LONG, r::PFV, k::FREE),
+        Row(13, 1, n::RES0, n::RES0_LONG, r::PLAIN, k::CHECKED),
+        Row(11, 2, n::SET, n::SET_LONG, r::SET_TYPE, k::SET),
+        Row(10, 1, n::FNV, n::FNV_LONG, r::FNV, k::FREE),
+        Row(9, 1, n::EA, n::EA_LONG, r::PLAIN, k::FREE),
+        Row(8, 1, n::RES0, n::RES0_LONG, r::PLAIN, k::CHECKED),
+        Row(7, 1, n::S1PTW, n::S1PTW_LONG, r::PLAIN, k::FREE),
+        Row(6, 1, n::RES0, n::RES0_LONG, r::PLAIN, k::CHECKED),
+        Row(0, 6, n::IFSC, n::IFSC_LONG, r::FAULT_STATUS, k::FSC),
+        PAD,
+        PAD,
+        PAD,
+        PAD,
+    ],
+    count: 10,
+    checks: [0, 6, 8, 9, 2, 3, 0, 0, 0, 0, 0, 0, 0, 0],
+    checked: 6,
+    rule: r::PLAIN,
+};
+
+const INSTRUCTION_ABORT_EXTERNAL: Layout = Layout {
+    rows: [
+        Row(15, 10, n::RES0, n::RES0_LONG, r::PLAIN, k::CHECKED),
+        Row(14, 1, n::PFV, n::PFV_LONG, r::PFV, k::FREE),
+        Row(13, 1, n::RES0, n::RES0_LONG, r::PLAIN, k::CHECKED),
+        Row(11, 2, n::RES0, n::RES0_LONG, r::PLAIN, k::UNCHECKED),
+        Row(10, 1, n::FNV, n::FNV_LONG, r::FNV, k::FREE),
+        Row(9, 1, n::EA, n::EA_LONG, r::PLAIN, k::FREE),
+        Row(8, 1, n::RES0, n::RES0_LONG, r::PLAIN, k::CHECKED),
+        Row(7, 1, n::S1PTW, n::S1PTW_LONG, r::PLAIN, k::FREE),
+        Row(6, 1, n::RES0, n::RES0_LONG, r::PLAIN, k::CHECKED),
+        Row(0, 6, n::IFSC, n::IFSC_LONG, r::FAULT_STATUS, k::FSC),
+        PAD,
+        PAD,
+        PAD,
+        PAD,
+    ],
+    count: 10,
+    checks: [0, 6, 8, 9, 2, 0, 0, 0, 0, 0, 0, 0, 0, 0],
+    checked: 5,
+    rule: r::PLAIN,
+};
+
+const INSTRUCTION_ABORT: Layout = Layout {
+    rows: [
+        Row(15, 10, n::RES0, n::RES0_LONG, r::PLAIN, k::CHECKED),
+        Row(14, 1, n::RES0, n::RES0_LONG, r::PLAIN, k::CHECKED),
+        Row(13, 1, n::RES0, n::RES0_LONG, r::PLAIN, k::CHECKED),
+        Row(11, 2, n::RES0, n::RES0_LONG, r::PLAIN, k::UNCHECKED),
+        Row(10, 1, n::FNV, n::FNV_LONG, r::FNV, k::FREE),
+        Row(9, 1, n::EA, n::EA_LONG, r::PLAIN, k::FREE),
+        Row(8, 1, n::RES0, n::RES0_LONG, r::PLAIN, k::CHECKED),
+        Row(7, 1, n::S1PTW, n::S1PTW_LONG, r::PLAIN, k::FREE),
+        Row(6, 1, n::RES0, n::RES0_LONG, r::PLAIN, k::CHECKED),
+        Row(0, 6, n::IFSC, n::IFSC_LONG, r::FAULT_STATUS, k::FSC),
+        PAD,
+        PAD,
+        PAD,
+        PAD,
+    ],
+    count: 10,
+    checks: [0, 6, 8, 9, 1, 2, 0, 0, 0, 0, 0, 0, 0, 0],
+    checked: 6,
+    rule: r::PLAIN,
+};
+
+const DATA_ABORT_VALID_SET: Layout = Layout {
+    rows: [
+        Row(24, 1, n::ISV, n::ISV_LONG, r::ISV, k::FREE),
+        Row(22, 2, n::SAS, n::SAS_LONG, r::SAS, k::UNREACHED),
+        Row(21, 1, n::SSE, n::SSE_LONG, r::PLAIN, k::FREE),
+        Row(16, 5, n::SRT, n::SRT_LONG, r::PLAIN, k::FREE),
+        Row(15, 1, n::SF, n::SF_LONG, r::SF, k::FREE),
+        Row(14, 1, n::AR, n::AR_LONG, r::AR, k::FREE),
+        Row(13, 1, n::VNCR, n::NONE, r::PLAIN, k::FREE),
+        Row(11, 2, n::SET, n::SET_LONG, r::SET_TYPE, k::SET),
+        Row(10, 1, n::FNV, n::FNV_LONG, r::FNV, k::FREE),
+        Row(9, 1, n::EA, n::EA_LONG, r::PLAIN, k::FREE),
+        Row(8, 1, n::CM, n::CM_LONG, r::PLAIN, k::FREE),
+        Row(7, 1, n::S1PTW, n::S1PTW_LONG, r::PLAIN, k::FREE),
+        Row(6, 1, n::WNR, n::WNR_LONG, r::WNR, k::FREE),
+        Row(0, 6, n::DFSC, n::DFSC_LONG, r::FAULT_STATUS, k::FSC),
+    ],
+    count: 14,
+    checks: [1, 13, 7, 0, 0, 0, 0, 0, 0, 0, 0, 0, 0, 0],
+    checked: 3,
+    rule: r::PLAIN,
+};
+
+const DATA_ABORT_VALID: Layout = Layout {
+    rows: [
+        Row(24, 1, n::ISV, n::ISV_LONG, r::ISV, k::FREE),
+        Row(22, 2, n::SAS, n::SAS_LONG, r::SAS, k::UNREACHED),
+        Row(21, 1, n::SSE, n::SSE_LONG, r::PLAIN, k::FREE),
+        Row(16, 5, n::SRT, n::SRT_LONG, r::PLAIN, k::FREE),
+        Row(15, 1, n::SF, n::SF_LONG, r::SF, k::FREE),
+        Row(14, 1, n::AR, n::AR_LONG, r::AR, k::FREE),
+        Row(13, 1, n::VNCR, n::NONE, r::PLAIN, k::FREE),
+        Row(11, 2, n::RES0, n::RES0_LONG, r::PLAIN, k::UNCHECKED),
+        Row(10, 1, n::FNV, n::FNV_LONG, r::FNV, k::FREE),
+        Row(9, 1, n::EA, n::EA_LONG, r::PLAIN, k::FREE),
+        Row(8, 1, n::CM, n::CM_LONG, r::PLAIN, k::FREE),
+        Row(7, 1, n::S1PTW, n::S1PTW_LONG, r::PLAIN, k::FREE),
+        Row(6, 1, n::WNR, n::WNR_LONG, r::WNR, k::FREE),
+        Row(0, 6, n::DFSC, n::DFSC_LONG, r::FAULT_STATUS, k::FSC),
+    ],
+    count: 14,
+    checks: [1, 13, 0, 0, 0, 0, 0, 0, 0, 0, 0, 0, 0, 0],
+    checked: 2,
+    rule: r::PLAIN,
+};
+
+const DATA_ABORT_SET_NO_FAR: Layout = Layout {
+    rows: [
+        Row(24, 1, n::ISV, n::ISV_LONG, r::ISV, k::FREE),
+        Row(21, 3, n::RES0, n::RES0_LONG, r::PLAIN, k::CHECKED),
+        Row(18, 3, n::RES0, n::RES0_LONG, r::PLAIN, k::CHECKED),
+        Row(16, 2, n::WU, n::WU_LONG, r::WU, k::FREE),
+        Row(15, 1, n::FNP, n::FNP_LONG, r::FNP_NOT_VALID, k::FREE),
+        Row(14, 1, n::PFV, n::PFV_LONG, r::PFV, k::FREE),
+        Row(13, 1, n::VNCR, n::NONE, r::PLAIN, k::FREE),
+        Row(11, 2, n::SET, n::SET_LONG, r::SET_TYPE, k::SET),
+        Row(10, 1, n::FNV, n::FNV_LONG, r::FNV, k::FREE),
+        Row(9, 1, n::EA, n::EA_LONG, r::PLAIN, k::FREE),
+        Row(8, 1, n::CM, n::CM_LONG, r::PLAIN, k::FREE),
+        Row(7, 1, n::S1PTW, n::S1PTW_LONG, r::PLAIN, k::FREE),
+        Row(6, 1, n::WNR, n::WNR_LONG, r::WNR, k::FREE),
+        Row(0, 6, n::DFSC, n::DFSC_LONG, r::FAULT_STATUS, k::FSC),
+    ],
+    count: 14,
+    checks: [1, 2, 13, 7, 0, 0, 0, 0, 0, 0, 0, 0, 0, 0],
+    checked: 4,
+    rule: r::PLAIN,
+};
+
+const DATA_ABORT_SET: Layout = Layout {
+    rows: [
+        Row(24, 1, n::ISV, n::ISV_LONG, r::ISV, k::FREE),
+        Row(21, 3, n::RES0, n::RES0_LONG, r::PLAIN, k::CHECKED),
+        Row(18, 3, n::RES0, n::RES0_LONG, r::PLAIN, k::CHECKED),
+        Row(16, 2, n::WU, n::WU_LONG, r::WU, k::FREE),
+        Row(15, 1, n::FNP, n::FNP_LONG, r::FNP, k::FREE),
+        Row(14, 1, n::PFV, n::PFV_LONG, r::PFV, k::FREE),
+        Row(13, 1, n::VNCR, n::NONE, r::PLAIN, k::FREE),
+        Row(11, 2, n::SET, n::SET_LONG, r::SET_TYPE, k::SET),
+        Row(10, 1, n::FNV, n::FNV_LONG, r::FNV, k::FREE),
+        Row(9, 1, n::EA, n::EA_LONG, r::PLAIN, k::FREE),
+        Row(8, 1, n::CM, n::CM_LONG, r::PLAIN, k::FREE),
+        Row(7, 1, n::S1PTW, n::S1PTW_LONG, r::PLAIN, k::FREE),
+        Row(6, 1, n::WNR, n::WNR_LONG, r::WNR, k::FREE),
+        Row(0, 6, n::DFSC, n::DFSC_LONG, r::FAULT_STATUS, k::FSC),
+    ],
+    count: 14,
+    checks: [1, 2, 13, 7, 0, 0, 0, 0, 0, 0, 0, 0, 0, 0],
+    checked: 4,
+    rule: r::PLAIN,
+};
+
+const DATA_ABORT_EXTERNAL: Layout = Layout {
+    rows: [
+        Row(24, 1, n::ISV, n::ISV_LONG, r::ISV, k::FREE),
+        Row(21, 3, n::RES0, n::RES0_LONG, r::PLAIN, k::CHECKED),
+        Row(18, 3, n::RES0, n::RES0_LONG, r::PLAIN, k::CHECKED),
+        Row(16, 2, n::WU, n::WU_LONG, r::WU, k::FREE),
+        Row(15, 1, n::FNP, n::FNP_LONG, r::FNP, k::FREE),
+        Row(14, 1, n::PFV, n::PFV_LONG, r::PFV, k::FREE),
+        Row(13, 1, n::VNCR, n::NONE, r::PLAIN, k::FREE),
+        Row(11, 2, n::RES0, n::RES0_LONG, r::PLAIN, k::UNCHECKED),
+        Row(10, 1, n::FNV, n::FNV_LONG, r::FNV, k::FREE),
+        Row(9, 1, n::EA, n::EA_LONG, r::PLAIN, k::FREE),
+        Row(8, 1, n::CM, n::CM_LONG, r::PLAIN, k::FREE),
+        Row(7, 1, n::S1PTW, n::S1PTW_LONG, r::PLAIN, k::FREE),
+        Row(6, 1, n::WNR, n::WNR_LONG, r::WNR, k::FREE),
+        Row(0, 6, n::DFSC, n::DFSC_LONG, r::FAULT_STATUS, k::FSC),
+    ],
+    count: 14,
+    checks: [1, 2, 13, 0, 0, 0, 0, 0, 0, 0, 0, 0, 0, 0],
+    checked: 3,
+    rule: r::PLAIN,
+};
+
+const DATA_ABORT: Layout = Layout {
+    rows: [
+        Row(24, 1, n::ISV, n::ISV_LONG, r::ISV, k::FREE),
+        Row(21, 3, n::RES0, n::RES0_LONG, r::PLAIN, k::CHECKED),
+        Row(16, 5, n::RES0, n::RES0_LONG, r::PLAIN, k::CHECKED),
+        Row(15, 1, n::FNP, n::FNP_LONG, r::FNP, k::FREE),
+        Row(14, 1, n::RES0, n::RES0_LONG, r::PLAIN, k::CHECKED),
+        Row(13, 1, n::VNCR, n::NONE, r::PLAIN, k::FREE),
+        Row(11, 2, n::RES0, n::RES0_LONG, r::PLAIN, k::UNCHECKED),
+        Row(10, 1, n::FNV, n::FNV_LONG, r::FNV, k::FREE),
+        Row(9, 1, n::EA, n::EA_LONG, r::PLAIN, k::FREE),
+        Row(8, 1, n::CM, n::CM_LONG, r::PLAIN, k::FREE),
+        Row(7, 1, n::S1PTW, n::S1PTW_LONG, r::PLAIN, k::FREE),
+        Row(6, 1, n::WNR, n::WNR_LONG, r::WNR, k::FREE),
+        Row(0, 6, n::DFSC, n::DFSC_LONG, r::FAULT_STATUS, k::FSC),
+        PAD,
+    ],
+    count: 13,
+    checks: [1, 2, 4, 12, 0, 0, 0, 0, 0, 0, 0, 0, 0, 0],
+    checked: 4,
+    rule: r::PLAIN,
+};
+
+// 01's external statuses: 0x10, 0x13 to 0x17. The Rust counts 0x12 too.
+fn is_external_abort_fsc(status: u64) -> bool
+    ensures { λ r. ⌜ r ≡ member status externals ⌝ }
+{
+    match status {
+        0x10 | 0x13 | 0x14 | 0x15 | 0x16 | 0x17 => true,
+        _ => false,
+    }
+}
+
+// Classes 0x20, 0x21.
+pub(crate) fn decode_iss_instruction_abort(iss: u64) -> Layout
+    ensures { λ r. ⌜ r ≡ layoutFor instructionAbort iss ⌝ }
+{
+    let status = records::field(iss, 0, 6);
+    if status == 0x10 {
+        return INSTRUCTION_ABORT_SET;
+    }
+    if is_external_abort_fsc(status) {
+        return INSTRUCTION_ABORT_EXTERNAL;
+    }
+    INSTRUCTION_ABORT
+}
+
+// Classes 0x24, 0x25.
+pub(crate) fn decode_iss_data_abort(iss: u64) -> Layout
+    ensures { λ r. ⌜ r ≡ layoutFor dataAbort iss ⌝ }
+{
+    let status = records::field(iss, 0, 6);
+    if records::as_bit(iss, 24) {
+        if status == 0x10 {
+            return DATA_ABORT_VALID_SET;
+        }
+        return DATA_ABORT_VALID;
+    }
+    if status == 0x10 {
+        if records::as_bit(iss, 10) {
+            return DATA_ABORT_SET_NO_FAR;
+        }
+        return DATA_ABORT_SET;
+    }
+    if is_external_abort_fsc(status) {
+        return DATA_ABORT_EXTERNAL;
+    }
+    DATA_ABORT
+}

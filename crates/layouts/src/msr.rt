@@ -1,0 +1,37 @@
+// The layout of trapped MSR, MRS and System instructions: ISS undivided, as 01 has it.
+ghost use Rattle.layouts.specs.Layouts.{layoutFor};
+ghost use Rattle.layouts.specs.Tables.{undivided};
+ghost use mathlib.Core.Path.{_≡_};
+use crate::Layout;
+use crate::PAD;
+use texts::rules as r;
+
+const UNDIVIDED: Layout = Layout {
+    rows: [
+        PAD,
+        PAD,
+        PAD,
+        PAD,
+        PAD,
+        PAD,
+        PAD,
+        PAD,
+        PAD,
+        PAD,
+        PAD,
+        PAD,
+        PAD,
+        PAD,
+    ],
+    count: 0,
+    checks: [0, 0, 0, 0, 0, 0, 0, 0, 0, 0, 0, 0, 0, 0],
+    checked: 0,
+    rule: r::PLAIN,
+};
+
+// Class 0x18.
+pub(crate) fn decode_iss_msr(iss: u64) -> Layout
+    ensures { λ r. ⌜ r ≡ layoutFor undivided iss ⌝ }
+{
+    UNDIVIDED
+}

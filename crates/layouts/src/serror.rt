@@ -1,0 +1,118 @@
+// The layout of SError interrupts.
+ghost use Rattle.layouts.specs.Layouts.{layoutFor};
+ghost use Rattle.layouts.specs.Tables.{serror};
+ghost use mathlib.Core.Path.{_≡_};
+use crate::Layout;
+use crate::PAD;
+use records::Row;
+use records::kinds as k;
+use texts::names as n;
+use texts::rules as r;
+
+const SERROR_IMPDEF: Layout = Layout {
+    rows: [
+        Row(24, 1, n::IDS, n::IDS_LONG, r::IDS, k::FREE),
+        Row(0, 24, n::IMPDEF, n::IMPDEF_LONG, r::PLAIN, k::FREE),
+        PAD,
+        PAD,
+        PAD,
+        PAD,
+        PAD,
+        PAD,
+        PAD,
+        PAD,
+        PAD,
+        PAD,
+        PAD,
+        PAD,
+    ],
+    count: 2,
+    checks: [0, 0, 0, 0, 0, 0, 0, 0, 0, 0, 0, 0, 0, 0],
+    checked: 0,
+    rule: r::PLAIN,
+};
+
+const SERROR_ASYNC_VALID: Layout = Layout {
+    rows: [
+        Row(24, 1, n::IDS, n::IDS_LONG, r::IDS, k::FREE),
+        Row(19, 5, n::RES0, n::RES0_LONG, r::PLAIN, k::CHECKED),
+        Row(18, 1, n::ELS, n::ELS_LONG, r::ELS, k::FREE),
+        Row(16, 2, n::WU, n::WU_LONG, r::WU, k::FREE),
+        Row(15, 1, n::VFV, n::VFV_LONG, r::VFV, k::FREE),
+        Row(14, 1, n::PFV, n::PFV_LONG, r::PFV, k::FREE),
+        Row(13, 1, n::IESB, n::IESB_LONG, r::IESB, k::FREE),
+        Row(10, 3, n::AET, n::AET_LONG, r::AET, k::AET),
+        Row(9, 1, n::EA, n::EA_LONG_SERROR, r::PLAIN, k::FREE),
+        Row(8, 1, n::RES0, n::RES0_LONG, r::PLAIN, k::CHECKED),
+        Row(7, 1, n::WNRV, n::WNRV_LONG, r::WNRV, k::FREE),
+        Row(6, 1, n::WNR, n::WNR_LONG, r::WNR, k::FREE),
+        Row(0, 6, n::DFSC, n::DFSC_LONG, r::SERROR_STATUS, k::FSC),
+        PAD,
+    ],
+    count: 13,
+    checks: [12, 7, 1, 9, 0, 0, 0, 0, 0, 0, 0, 0, 0, 0],
+    checked: 4,
+    rule: r::PLAIN,
+};
+
+const SERROR_ASYNC: Layout = Layout {
+    rows: [
+        Row(24, 1, n::IDS, n::IDS_LONG, r::IDS, k::FREE),
+        Row(19, 5, n::RES0, n::RES0_LONG, r::PLAIN, k::CHECKED),
+        Row(18, 1, n::ELS, n::ELS_LONG, r::ELS, k::FREE),
+        Row(16, 2, n::WU, n::WU_LONG, r::WU, k::FREE),
+        Row(15, 1, n::VFV, n::VFV_LONG, r::VFV, k::FREE),
+        Row(14, 1, n::PFV, n::PFV_LONG, r::PFV, k::FREE),
+        Row(13, 1, n::IESB, n::IESB_LONG, r::IESB, k::FREE),
+        Row(10, 3, n::AET, n::AET_LONG, r::AET, k::AET),
+        Row(9, 1, n::EA, n::EA_LONG_SERROR, r::PLAIN, k::FREE),
+        Row(8, 1, n::RES0, n::RES0_LONG, r::PLAIN, k::CHECKED),
+        Row(7, 1, n::WNRV, n::WNRV_LONG, r::WNRV, k::FREE),
+        Row(6, 1, n::WNR, n::WNR_LONG, r::WNR_NOT_VALID, k::CHECKED),
+        Row(0, 6, n::DFSC, n::DFSC_LONG, r::SERROR_STATUS, k::FSC),
+        PAD,
+    ],
+    count: 13,
+    checks: [12, 7, 1, 9, 11, 0, 0, 0, 0, 0, 0, 0, 0, 0],
+    checked: 5,
+    rule: r::PLAIN,
+};
+
+const SERROR: Layout = Layout {
+    rows: [
+        Row(24, 1, n::IDS, n::IDS_LONG, r::IDS, k::FREE),
+        Row(14, 10, n::RES0, n::RES0_LONG, r::PLAIN, k::CHECKED),
+        Row(13, 1, n::RES0, n::RES0_LONG_DFSC, r::PLAIN, k::CHECKED),
+        Row(10, 3, n::AET, n::AET_LONG, r::AET, k::AET),
+        Row(9, 1, n::EA, n::EA_LONG_SERROR, r::PLAIN, k::FREE),
+        Row(6, 3, n::RES0, n::RES0_LONG, r::PLAIN, k::CHECKED),
+        Row(0, 6, n::DFSC, n::DFSC_LONG, r::SERROR_STATUS, k::FSC),
+        PAD,
+        PAD,
+        PAD,
+        PAD,
+        PAD,
+        PAD,
+        PAD,
+    ],
+    count: 7,
+    checks: [6, 3, 1, 2, 5, 0, 0, 0, 0, 0, 0, 0, 0, 0],
+    checked: 5,
+    rule: r::PLAIN,
+};
+
+// Class 0x2F.
+pub(crate) fn decode_iss_serror(iss: u64) -> Layout
+    ensures { λ r. ⌜ r ≡ layoutFor serror iss ⌝ }
+{
+    if records::as_bit(iss, 24) {
+        return SERROR_IMPDEF;
+    }
+    if records::field(iss, 0, 6) == 0x11 {
+        if records::as_bit(iss, 7) {
+            return SERROR_ASYNC_VALID;
+        }
+        return SERROR_ASYNC;
+    }
+    SERROR
+}
