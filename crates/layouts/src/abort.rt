@@ -1,4 +1,4 @@
-// The layouts of instruction and data aborts.
+// The layouts of instruction and data aborts. Each row stands once, and a layout lists those that it has.
 ghost use Rattle.layouts.specs.Layouts.{layoutFor, member};
 ghost use Rattle.layouts.specs.Shape.{externals};
 ghost use Rattle.layouts.specs.Tables.{dataAbort, instructionAbort};
@@ -10,18 +10,74 @@ use records::kinds as k;
 use texts::names as n;
 use texts::rules as r;
 
+const RES0_15: Row = Row(15, 10, n::RES0, n::RES0_LONG, r::PLAIN, k::CHECKED);
+
+const PFV: Row = Row(14, 1, n::PFV, n::PFV_LONG, r::PFV, k::FREE);
+
+const RES0_13: Row = Row(13, 1, n::RES0, n::RES0_LONG, r::PLAIN, k::CHECKED);
+
+const SET: Row = Row(11, 2, n::SET, n::SET_LONG, r::SET_TYPE, k::SET);
+
+const FNV: Row = Row(10, 1, n::FNV, n::FNV_LONG, r::FNV, k::FREE);
+
+const EA: Row = Row(9, 1, n::EA, n::EA_LONG, r::PLAIN, k::FREE);
+
+const RES0_8: Row = Row(8, 1, n::RES0, n::RES0_LONG, r::PLAIN, k::CHECKED);
+
+const S1PTW: Row = Row(7, 1, n::S1PTW, n::S1PTW_LONG, r::PLAIN, k::FREE);
+
+const RES0_6: Row = Row(6, 1, n::RES0, n::RES0_LONG, r::PLAIN, k::CHECKED);
+
+const IFSC: Row = Row(0, 6, n::IFSC, n::IFSC_LONG, r::FAULT_STATUS, k::FSC);
+
+const RES0_11: Row = Row(11, 2, n::RES0, n::RES0_LONG, r::PLAIN, k::UNCHECKED);
+
+const RES0_14: Row = Row(14, 1, n::RES0, n::RES0_LONG, r::PLAIN, k::CHECKED);
+
+const ISV: Row = Row(24, 1, n::ISV, n::ISV_LONG, r::ISV, k::FREE);
+
+const SAS: Row = Row(22, 2, n::SAS, n::SAS_LONG, r::SAS, k::UNREACHED);
+
+const SSE: Row = Row(21, 1, n::SSE, n::SSE_LONG, r::PLAIN, k::FREE);
+
+const SRT: Row = Row(16, 5, n::SRT, n::SRT_LONG, r::PLAIN, k::FREE);
+
+const SF: Row = Row(15, 1, n::SF, n::SF_LONG, r::SF, k::FREE);
+
+const AR: Row = Row(14, 1, n::AR, n::AR_LONG, r::AR, k::FREE);
+
+const VNCR: Row = Row(13, 1, n::VNCR, n::NONE, r::PLAIN, k::FREE);
+
+const CM: Row = Row(8, 1, n::CM, n::CM_LONG, r::PLAIN, k::FREE);
+
+const WNR: Row = Row(6, 1, n::WNR, n::WNR_LONG, r::WNR, k::FREE);
+
+const DFSC: Row = Row(0, 6, n::DFSC, n::DFSC_LONG, r::FAULT_STATUS, k::FSC);
+
+const RES0_21: Row = Row(21, 3, n::RES0, n::RES0_LONG, r::PLAIN, k::CHECKED);
+
+const RES0_18: Row = Row(18, 3, n::RES0, n::RES0_LONG, r::PLAIN, k::CHECKED);
+
+const WU: Row = Row(16, 2, n::WU, n::WU_LONG, r::WU, k::FREE);
+
+const FNP_NOT_VALID: Row = Row(15, 1, n::FNP, n::FNP_LONG, r::FNP_NOT_VALID, k::FREE);
+
+const FNP: Row = Row(15, 1, n::FNP, n::FNP_LONG, r::FNP, k::FREE);
+
+const RES0_16: Row = Row(16, 5, n::RES0, n::RES0_LONG, r::PLAIN, k::CHECKED);
+
 const INSTRUCTION_ABORT_SET: Layout = Layout {
     rows: [
-        Row(15, 10, n::RES0, n::RES0_LONG, r::PLAIN, k::CHECKED),
-        Row(14, 1, n::PFV, n::PFV_LONG, r::PFV, k::FREE),
-        Row(13, 1, n::RES0, n::RES0_LONG, r::PLAIN, k::CHECKED),
-        Row(11, 2, n::SET, n::SET_LONG, r::SET_TYPE, k::SET),
-        Row(10, 1, n::FNV, n::FNV_LONG, r::FNV, k::FREE),
-        Row(9, 1, n::EA, n::EA_LONG, r::PLAIN, k::FREE),
-        Row(8, 1, n::RES0, n::RES0_LONG, r::PLAIN, k::CHECKED),
-        Row(7, 1, n::S1PTW, n::S1PTW_LONG, r::PLAIN, k::FREE),
-        Row(6, 1, n::RES0, n::RES0_LONG, r::PLAIN, k::CHECKED),
-        Row(0, 6, n::IFSC, n::IFSC_LONG, r::FAULT_STATUS, k::FSC),
+        RES0_15,
+        PFV,
+        RES0_13,
+        SET,
+        FNV,
+        EA,
+        RES0_8,
+        S1PTW,
+        RES0_6,
+        IFSC,
         PAD,
         PAD,
         PAD,
@@ -35,16 +91,16 @@ const INSTRUCTION_ABORT_SET: Layout = Layout {
 
 const INSTRUCTION_ABORT_EXTERNAL: Layout = Layout {
     rows: [
-        Row(15, 10, n::RES0, n::RES0_LONG, r::PLAIN, k::CHECKED),
-        Row(14, 1, n::PFV, n::PFV_LONG, r::PFV, k::FREE),
-        Row(13, 1, n::RES0, n::RES0_LONG, r::PLAIN, k::CHECKED),
-        Row(11, 2, n::RES0, n::RES0_LONG, r::PLAIN, k::UNCHECKED),
-        Row(10, 1, n::FNV, n::FNV_LONG, r::FNV, k::FREE),
-        Row(9, 1, n::EA, n::EA_LONG, r::PLAIN, k::FREE),
-        Row(8, 1, n::RES0, n::RES0_LONG, r::PLAIN, k::CHECKED),
-        Row(7, 1, n::S1PTW, n::S1PTW_LONG, r::PLAIN, k::FREE),
-        Row(6, 1, n::RES0, n::RES0_LONG, r::PLAIN, k::CHECKED),
-        Row(0, 6, n::IFSC, n::IFSC_LONG, r::FAULT_STATUS, k::FSC),
+        RES0_15,
+        PFV,
+        RES0_13,
+        RES0_11,
+        FNV,
+        EA,
+        RES0_8,
+        S1PTW,
+        RES0_6,
+        IFSC,
         PAD,
         PAD,
         PAD,
@@ -58,16 +114,16 @@ const INSTRUCTION_ABORT_EXTERNAL: Layout = Layout {
 
 const INSTRUCTION_ABORT: Layout = Layout {
     rows: [
-        Row(15, 10, n::RES0, n::RES0_LONG, r::PLAIN, k::CHECKED),
-        Row(14, 1, n::RES0, n::RES0_LONG, r::PLAIN, k::CHECKED),
-        Row(13, 1, n::RES0, n::RES0_LONG, r::PLAIN, k::CHECKED),
-        Row(11, 2, n::RES0, n::RES0_LONG, r::PLAIN, k::UNCHECKED),
-        Row(10, 1, n::FNV, n::FNV_LONG, r::FNV, k::FREE),
-        Row(9, 1, n::EA, n::EA_LONG, r::PLAIN, k::FREE),
-        Row(8, 1, n::RES0, n::RES0_LONG, r::PLAIN, k::CHECKED),
-        Row(7, 1, n::S1PTW, n::S1PTW_LONG, r::PLAIN, k::FREE),
-        Row(6, 1, n::RES0, n::RES0_LONG, r::PLAIN, k::CHECKED),
-        Row(0, 6, n::IFSC, n::IFSC_LONG, r::FAULT_STATUS, k::FSC),
+        RES0_15,
+        RES0_14,
+        RES0_13,
+        RES0_11,
+        FNV,
+        EA,
+        RES0_8,
+        S1PTW,
+        RES0_6,
+        IFSC,
         PAD,
         PAD,
         PAD,
@@ -81,20 +137,20 @@ const INSTRUCTION_ABORT: Layout = Layout {
 
 const DATA_ABORT_VALID_SET: Layout = Layout {
     rows: [
-        Row(24, 1, n::ISV, n::ISV_LONG, r::ISV, k::FREE),
-        Row(22, 2, n::SAS, n::SAS_LONG, r::SAS, k::UNREACHED),
-        Row(21, 1, n::SSE, n::SSE_LONG, r::PLAIN, k::FREE),
-        Row(16, 5, n::SRT, n::SRT_LONG, r::PLAIN, k::FREE),
-        Row(15, 1, n::SF, n::SF_LONG, r::SF, k::FREE),
-        Row(14, 1, n::AR, n::AR_LONG, r::AR, k::FREE),
-        Row(13, 1, n::VNCR, n::NONE, r::PLAIN, k::FREE),
-        Row(11, 2, n::SET, n::SET_LONG, r::SET_TYPE, k::SET),
-        Row(10, 1, n::FNV, n::FNV_LONG, r::FNV, k::FREE),
-        Row(9, 1, n::EA, n::EA_LONG, r::PLAIN, k::FREE),
-        Row(8, 1, n::CM, n::CM_LONG, r::PLAIN, k::FREE),
-        Row(7, 1, n::S1PTW, n::S1PTW_LONG, r::PLAIN, k::FREE),
-        Row(6, 1, n::WNR, n::WNR_LONG, r::WNR, k::FREE),
-        Row(0, 6, n::DFSC, n::DFSC_LONG, r::FAULT_STATUS, k::FSC),
+        ISV,
+        SAS,
+        SSE,
+        SRT,
+        SF,
+        AR,
+        VNCR,
+        SET,
+        FNV,
+        EA,
+        CM,
+        S1PTW,
+        WNR,
+        DFSC,
     ],
     count: 14,
     checks: [1, 13, 7, 0, 0, 0, 0, 0, 0, 0, 0, 0, 0, 0],
@@ -104,20 +160,20 @@ const DATA_ABORT_VALID_SET: Layout = Layout {
 
 const DATA_ABORT_VALID: Layout = Layout {
     rows: [
-        Row(24, 1, n::ISV, n::ISV_LONG, r::ISV, k::FREE),
-        Row(22, 2, n::SAS, n::SAS_LONG, r::SAS, k::UNREACHED),
-        Row(21, 1, n::SSE, n::SSE_LONG, r::PLAIN, k::FREE),
-        Row(16, 5, n::SRT, n::SRT_LONG, r::PLAIN, k::FREE),
-        Row(15, 1, n::SF, n::SF_LONG, r::SF, k::FREE),
-        Row(14, 1, n::AR, n::AR_LONG, r::AR, k::FREE),
-        Row(13, 1, n::VNCR, n::NONE, r::PLAIN, k::FREE),
-        Row(11, 2, n::RES0, n::RES0_LONG, r::PLAIN, k::UNCHECKED),
-        Row(10, 1, n::FNV, n::FNV_LONG, r::FNV, k::FREE),
-        Row(9, 1, n::EA, n::EA_LONG, r::PLAIN, k::FREE),
-        Row(8, 1, n::CM, n::CM_LONG, r::PLAIN, k::FREE),
-        Row(7, 1, n::S1PTW, n::S1PTW_LONG, r::PLAIN, k::FREE),
-        Row(6, 1, n::WNR, n::WNR_LONG, r::WNR, k::FREE),
-        Row(0, 6, n::DFSC, n::DFSC_LONG, r::FAULT_STATUS, k::FSC),
+        ISV,
+        SAS,
+        SSE,
+        SRT,
+        SF,
+        AR,
+        VNCR,
+        RES0_11,
+        FNV,
+        EA,
+        CM,
+        S1PTW,
+        WNR,
+        DFSC,
     ],
     count: 14,
     checks: [1, 13, 0, 0, 0, 0, 0, 0, 0, 0, 0, 0, 0, 0],
@@ -127,20 +183,20 @@ const DATA_ABORT_VALID: Layout = Layout {
 
 const DATA_ABORT_SET_NO_FAR: Layout = Layout {
     rows: [
-        Row(24, 1, n::ISV, n::ISV_LONG, r::ISV, k::FREE),
-        Row(21, 3, n::RES0, n::RES0_LONG, r::PLAIN, k::CHECKED),
-        Row(18, 3, n::RES0, n::RES0_LONG, r::PLAIN, k::CHECKED),
-        Row(16, 2, n::WU, n::WU_LONG, r::WU, k::FREE),
-        Row(15, 1, n::FNP, n::FNP_LONG, r::FNP_NOT_VALID, k::FREE),
-        Row(14, 1, n::PFV, n::PFV_LONG, r::PFV, k::FREE),
-        Row(13, 1, n::VNCR, n::NONE, r::PLAIN, k::FREE),
-        Row(11, 2, n::SET, n::SET_LONG, r::SET_TYPE, k::SET),
-        Row(10, 1, n::FNV, n::FNV_LONG, r::FNV, k::FREE),
-        Row(9, 1, n::EA, n::EA_LONG, r::PLAIN, k::FREE),
-        Row(8, 1, n::CM, n::CM_LONG, r::PLAIN, k::FREE),
-        Row(7, 1, n::S1PTW, n::S1PTW_LONG, r::PLAIN, k::FREE),
-        Row(6, 1, n::WNR, n::WNR_LONG, r::WNR, k::FREE),
-        Row(0, 6, n::DFSC, n::DFSC_LONG, r::FAULT_STATUS, k::FSC),
+        ISV,
+        RES0_21,
+        RES0_18,
+        WU,
+        FNP_NOT_VALID,
+        PFV,
+        VNCR,
+        SET,
+        FNV,
+        EA,
+        CM,
+        S1PTW,
+        WNR,
+        DFSC,
     ],
     count: 14,
     checks: [1, 2, 13, 7, 0, 0, 0, 0, 0, 0, 0, 0, 0, 0],
@@ -150,20 +206,20 @@ const DATA_ABORT_SET_NO_FAR: Layout = Layout {
 
 const DATA_ABORT_SET: Layout = Layout {
     rows: [
-        Row(24, 1, n::ISV, n::ISV_LONG, r::ISV, k::FREE),
-        Row(21, 3, n::RES0, n::RES0_LONG, r::PLAIN, k::CHECKED),
-        Row(18, 3, n::RES0, n::RES0_LONG, r::PLAIN, k::CHECKED),
-        Row(16, 2, n::WU, n::WU_LONG, r::WU, k::FREE),
-        Row(15, 1, n::FNP, n::FNP_LONG, r::FNP, k::FREE),
-        Row(14, 1, n::PFV, n::PFV_LONG, r::PFV, k::FREE),
-        Row(13, 1, n::VNCR, n::NONE, r::PLAIN, k::FREE),
-        Row(11, 2, n::SET, n::SET_LONG, r::SET_TYPE, k::SET),
-        Row(10, 1, n::FNV, n::FNV_LONG, r::FNV, k::FREE),
-        Row(9, 1, n::EA, n::EA_LONG, r::PLAIN, k::FREE),
-        Row(8, 1, n::CM, n::CM_LONG, r::PLAIN, k::FREE),
-        Row(7, 1, n::S1PTW, n::S1PTW_LONG, r::PLAIN, k::FREE),
-        Row(6, 1, n::WNR, n::WNR_LONG, r::WNR, k::FREE),
-        Row(0, 6, n::DFSC, n::DFSC_LONG, r::FAULT_STATUS, k::FSC),
+        ISV,
+        RES0_21,
+        RES0_18,
+        WU,
+        FNP,
+        PFV,
+        VNCR,
+        SET,
+        FNV,
+        EA,
+        CM,
+        S1PTW,
+        WNR,
+        DFSC,
     ],
     count: 14,
     checks: [1, 2, 13, 7, 0, 0, 0, 0, 0, 0, 0, 0, 0, 0],
@@ -173,20 +229,20 @@ const DATA_ABORT_SET: Layout = Layout {
 
 const DATA_ABORT_EXTERNAL: Layout = Layout {
     rows: [
-        Row(24, 1, n::ISV, n::ISV_LONG, r::ISV, k::FREE),
-        Row(21, 3, n::RES0, n::RES0_LONG, r::PLAIN, k::CHECKED),
-        Row(18, 3, n::RES0, n::RES0_LONG, r::PLAIN, k::CHECKED),
-        Row(16, 2, n::WU, n::WU_LONG, r::WU, k::FREE),
-        Row(15, 1, n::FNP, n::FNP_LONG, r::FNP, k::FREE),
-        Row(14, 1, n::PFV, n::PFV_LONG, r::PFV, k::FREE),
-        Row(13, 1, n::VNCR, n::NONE, r::PLAIN, k::FREE),
-        Row(11, 2, n::RES0, n::RES0_LONG, r::PLAIN, k::UNCHECKED),
-        Row(10, 1, n::FNV, n::FNV_LONG, r::FNV, k::FREE),
-        Row(9, 1, n::EA, n::EA_LONG, r::PLAIN, k::FREE),
-        Row(8, 1, n::CM, n::CM_LONG, r::PLAIN, k::FREE),
-        Row(7, 1, n::S1PTW, n::S1PTW_LONG, r::PLAIN, k::FREE),
-        Row(6, 1, n::WNR, n::WNR_LONG, r::WNR, k::FREE),
-        Row(0, 6, n::DFSC, n::DFSC_LONG, r::FAULT_STATUS, k::FSC),
+        ISV,
+        RES0_21,
+        RES0_18,
+        WU,
+        FNP,
+        PFV,
+        VNCR,
+        RES0_11,
+        FNV,
+        EA,
+        CM,
+        S1PTW,
+        WNR,
+        DFSC,
     ],
     count: 14,
     checks: [1, 2, 13, 0, 0, 0, 0, 0, 0, 0, 0, 0, 0, 0],
@@ -196,19 +252,19 @@ const DATA_ABORT_EXTERNAL: Layout = Layout {
 
 const DATA_ABORT: Layout = Layout {
     rows: [
-        Row(24, 1, n::ISV, n::ISV_LONG, r::ISV, k::FREE),
-        Row(21, 3, n::RES0, n::RES0_LONG, r::PLAIN, k::CHECKED),
-        Row(16, 5, n::RES0, n::RES0_LONG, r::PLAIN, k::CHECKED),
-        Row(15, 1, n::FNP, n::FNP_LONG, r::FNP, k::FREE),
-        Row(14, 1, n::RES0, n::RES0_LONG, r::PLAIN, k::CHECKED),
-        Row(13, 1, n::VNCR, n::NONE, r::PLAIN, k::FREE),
-        Row(11, 2, n::RES0, n::RES0_LONG, r::PLAIN, k::UNCHECKED),
-        Row(10, 1, n::FNV, n::FNV_LONG, r::FNV, k::FREE),
-        Row(9, 1, n::EA, n::EA_LONG, r::PLAIN, k::FREE),
-        Row(8, 1, n::CM, n::CM_LONG, r::PLAIN, k::FREE),
-        Row(7, 1, n::S1PTW, n::S1PTW_LONG, r::PLAIN, k::FREE),
-        Row(6, 1, n::WNR, n::WNR_LONG, r::WNR, k::FREE),
-        Row(0, 6, n::DFSC, n::DFSC_LONG, r::FAULT_STATUS, k::FSC),
+        ISV,
+        RES0_21,
+        RES0_16,
+        FNP,
+        RES0_14,
+        VNCR,
+        RES0_11,
+        FNV,
+        EA,
+        CM,
+        S1PTW,
+        WNR,
+        DFSC,
         PAD,
     ],
     count: 13,

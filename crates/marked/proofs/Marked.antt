@@ -1,0 +1,120 @@
+-- The marked cases hold: one test over the whole table, which antt computes, and one law that turns it into what each case says.
+use Prim.Native.Nat.{ℕ}
+use Prim.Native.String.{String}
+use mathlib.Core.Bool.{Bool, true, false, cond, _&&_, _||_}
+use mathlib.Core.List.{List, [], _∷_, List·Memᴰ, List·Memᴰ·head, List·Memᴰ·tail}
+use mathlib.Core.Path.{_≡_, refl, sym, ap, _∙_, subst}
+use lib.Dec.{T, eqb, eqb→eq}
+use lib.ListN.{length}
+use lib.Text.{eqt, eqt→eq}
+use Rattle.promise.proofs.Tests.{both-left, both-right}
+use Rattle.texts.specs.Names.{names}
+use Rattle.texts.specs.Pool.{textIn, onList, ruleAt, says, byValue, said, placesOf, texts, textAt, placeIn, code, firstOf, textCode}
+use Rattle.texts.specs.Rules.{rules}
+use Rattle.records.specs.Bits.{fieldOf}
+use Rattle.records.specs.Refusals.{refusalNumber, refusalCarries, refusalBy}
+use Rattle.records.specs.Rows.{recordOf, checkOf}
+use Rattle.records.specs.Sets.{recordsOf}
+use Rattle.records.specs.declared.Record.{Record}
+use Rattle.records.specs.declared.Refusal.{Refusal}
+use Rattle.records.specs.declared.Refusal.the-variants.{None}
+use Rattle.records.proofs.Laws.{by-number}
+use Rattle.layouts.specs.Layouts.{passes, rowsFor, checksFor}
+use Rattle.layouts.specs.Tables.{layouts, tableOf, res0, wf, mcr, mcrr, ldc, sve, ld64b, bti, pauth, hvc, brk, fp, breakpoint, softwareStep, watchpoint, instructionAbort, dataAbort, serror, undivided}
+use Rattle.esr.specs.Decode.{topRows, layoutNumber, firstFailure, refused, accepted as acceptedAnswer, failureFor, recordsFor, tableAnswer, classAnswer, answerOf}
+use Rattle.esr.specs.Promises.{Decoded}
+use Rattle.esr.specs.declared.Answer.{Answer}
+use Rattle.marked.specs.Cases.{Fact, ofValue, withText, Expected, refusal, accepted, Case, cases, Says, Shown, AllShown, recordsIn, Met, Holds, AllHold}
+
+-- The test.
+
+abbrev saysOf : Fact → Record → Bool
+saysOf (ofValue name value) x = eqt (textAt (x .name)) name && eqb (x .value) value
+saysOf (withText name text) x = eqt (textAt (x .name)) name && eqt (textAt (x .text)) text
+
+abbrev shownIn : Fact → List Record → Bool
+shownIn f [] = false
+shownIn f (x ∷ xs) = saysOf f x || shownIn f xs
+
+abbrev allShown : List Fact → List Record → Bool
+allShown [] l = true
+allShown (f ∷ fs) l = shownIn f l && allShown fs l
+
+abbrev isEmpty : List Record → Bool
+isEmpty [] = true
+isEmpty (x ∷ xs) = false
+
+abbrev met : Expected → Answer → Bool
+met (refusal number carried) r =
+    eqb (refusalNumber (r .refusal)) number && (eqb (refusalCarries (r .refusal)) carried && isEmpty (recordsIn r))
+met (accepted facts) r = eqb (refusalNumber (r .refusal)) 0 && (eqb (refusalCarries (r .refusal)) 0 && allShown facts (recordsIn r))
+
+abbrev allMet : List Case → Bool
+allMet [] = true
+allMet (c ∷ cs) = met (c .expected) (answerOf (c .esr)) && allMet cs
+
+computed : T (allMet cases)
+unfolding cases answerOf classAnswer tableAnswer failureFor recordsFor acceptedAnswer refused layoutNumber topRows firstFailure tableOf layouts res0 wf mcr mcrr ldc sve ld64b bti pauth hvc brk fp breakpoint softwareStep watchpoint instructionAbort dataAbort serror undivided passes rowsFor checksFor fieldOf recordOf checkOf refusalBy recordsOf textIn onList ruleAt says byValue said placesOf texts textAt placeIn code firstOf textCode names rules
+computed = tt
+
+-- What it shows.
+
+says-so : (f : Fact) (x : Record) → T (saysOf f x) → Says f x
+says-so (ofValue name value) x t = (
+  eqt→eq (textAt (x .name)) name (both-left (eqt (textAt (x .name)) name) (eqb (x .value) value) t),
+  eqb→eq (x .value) value (both-right (eqt (textAt (x .name)) name) (eqb (x .value) value) t),
+)
+says-so (withText name text) x t = (
+  eqt→eq (textAt (x .name)) name (both-left (eqt (textAt (x .name)) name) (eqt (textAt (x .text)) text) t),
+  eqt→eq (textAt (x .text)) text (both-right (eqt (textAt (x .name)) name) (eqt (textAt (x .text)) text) t),
+)
+
+none-empty : (l : List Record) → T (isEmpty l) → l ≡ []
+none-empty [] t = refl
+none-empty (x ∷ xs) t = absurd t
+
+shown-so : (f : Fact) (l : List Record) → T (shownIn f l) → Shown f l
+shown-so f [] t = absurd t
+shown-so f (x ∷ xs) t = by-test (saysOf f x) refl t (shown-so f xs)
+  where
+    by-test : (b : Bool) → saysOf f x ≡ b → T (b || shownIn f xs) → (T (shownIn f xs) → Shown f xs) → Shown f (x ∷ xs)
+    by-test true e u rest = record { which = x; among = List·Memᴰ·head refl; so = says-so f x (subst T (sym e) tt) }
+    by-test false e u rest =
+        let s : Shown f xs = rest u in
+        record { which = s .which; among = List·Memᴰ·tail (s .among); so = s .so }
+
+all-so : (fs : List Fact) (l : List Record) → T (allShown fs l) → AllShown fs l
+all-so [] l t = tt
+all-so (f ∷ fs) l t =
+    (shown-so f l (both-left (shownIn f l) (allShown fs l) t), all-so fs l (both-right (shownIn f l) (allShown fs l) t))
+
+-- a refusal of number 0 that carries 0 refuses nothing
+no-refusal : (f : Refusal) → refusalNumber f ≡ 0 → refusalCarries f ≡ 0 → f ≡ None
+unfolding refusalBy
+no-refusal f n c = sym (by-number f) ∙ ap (λ (m : ℕ). refusalBy m (refusalCarries f)) n
+
+met-so : (e : Expected) (r : Answer) → T (met e r) → Met e r
+met-so (refusal number carried) r t =
+    let n : ℕ = refusalNumber (r .refusal) in
+    let u : T (eqb (refusalCarries (r .refusal)) carried && isEmpty (recordsIn r)) = both-right (eqb n number) _ t in (
+      eqb→eq n number (both-left (eqb n number) _ t),
+      eqb→eq (refusalCarries (r .refusal)) carried (both-left (eqb (refusalCarries (r .refusal)) carried) _ u),
+      none-empty (recordsIn r) (both-right (eqb (refusalCarries (r .refusal)) carried) _ u),
+    )
+met-so (accepted facts) r t =
+    let n : ℕ = refusalNumber (r .refusal) in
+    let u : T (eqb (refusalCarries (r .refusal)) 0 && allShown facts (recordsIn r)) = both-right (eqb n 0) _ t in (
+      no-refusal (r .refusal) (eqb→eq n 0 (both-left (eqb n 0) _ t)) (eqb→eq (refusalCarries (r .refusal)) 0 (both-left (eqb (refusalCarries (r .refusal)) 0) _ u)),
+      all-so facts (recordsIn r) (both-right (eqb (refusalCarries (r .refusal)) 0) _ u),
+    )
+
+all-hold : (cs : List Case) → T (allMet cs) → AllHold cs
+all-hold [] t = tt
+all-hold (c ∷ cs) t = (
+  (λ r d. subst (Met (c .expected)) (sym d) (met-so (c .expected) (answerOf (c .esr)) (both-left (met (c .expected) (answerOf (c .esr))) (allMet cs) t))),
+  all-hold cs (both-right (met (c .expected) (answerOf (c .esr))) (allMet cs) t),
+)
+
+-- Each of 01's marked cases holds of every answer that decode's promise allows.
+pub marked : AllHold cases
+marked = all-hold cases computed

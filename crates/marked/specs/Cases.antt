@@ -1,0 +1,80 @@
+-- 01, "Marked cases, proved together as one table": what is asked of the answer to each value. Names and texts are strings.
+use Prim.Native.Nat.{ℕ}
+use Prim.Native.String.{String}
+use mathlib.Core.List.{List, [], _∷_, List·Memᴰ}
+use mathlib.Core.Path.{_≡_}
+use lib.ListN.{take}
+use Rattle.texts.specs.Pool.{textAt}
+use Rattle.records.specs.Refusals.{refusalNumber, refusalCarries}
+use Rattle.records.specs.declared.Record.{Record}
+use Rattle.records.specs.declared.Refusal.the-variants.{None}
+use Rattle.esr.specs.Promises.{Decoded}
+use Rattle.esr.specs.declared.Answer.{Answer}
+
+-- a record of this name with this value; one of this name with this text
+pub data Fact : Type 0 where
+  ofValue : String → ℕ → Fact
+  withText : String → String → Fact
+
+-- refused by this number, carrying this; or accepted, with these facts
+pub data Expected : Type 0 where
+  refusal : ℕ → ℕ → Expected
+  accepted : List Fact → Expected
+
+pub record Case : Type 0 where
+  pub esr : ℕ
+  pub expected : Expected
+
+infix 70 _gives_
+abbrev pub _gives_ : ℕ → Expected → Case
+v gives e = record { esr = v; expected = e }
+
+unfoldable pub cases : List Case
+cases =
+    0x0 gives accepted [] ∷
+    0x56000001 gives accepted [] ∷
+    0x2000000000 gives refusal 1 1 ∷
+    0xFC000000 gives refusal 2 0x3F ∷
+    0x20FC000000 gives refusal 1 1 ∷
+    0x54010000 gives refusal 1 1 ∷
+    0x90000810 gives refusal 4 1 ∷
+    0x90000804 gives accepted (ofValue "RES0" 1 ∷ []) ∷
+    0x90010010 gives accepted (withText "WU" "Reserved" ∷ []) ∷
+    0xBC001000 gives refusal 5 4 ∷
+    0xBC001002 gives refusal 3 2 ∷
+    0xBDFFFFFF gives accepted [] ∷
+    0xBC000051 gives refusal 1 1 ∷
+    0x1800000A gives refusal 6 5 ∷
+    0x28000003 gives refusal 7 3 ∷
+    []
+
+-- what a fact says of a record
+abbrev pub Says : Fact → Record → Type 0
+Says (ofValue name value) x = (textAt (x .name) ≡ name) × (x .value ≡ value)
+Says (withText name text) x = (textAt (x .name) ≡ name) × (textAt (x .text) ≡ text)
+
+-- a record of a list of which it is so
+pub record Shown (f : Fact) (l : List Record) : Type 0 where
+  pub which : Record
+  pub among : List·Memᴰ which l
+  pub so : Says f which
+
+abbrev pub AllShown : List Fact → List Record → Type 0
+AllShown [] l = Unit {0}
+AllShown (f ∷ fs) l = Shown f l × AllShown fs l
+
+-- the records that an answer counts
+abbrev pub recordsIn : Answer → List Record
+recordsIn r = take (r .records .count) (r .records .items)
+
+abbrev pub Met : Expected → Answer → Type 0
+Met (refusal number carried) r = (refusalNumber (r .refusal) ≡ number) × (refusalCarries (r .refusal) ≡ carried) × (recordsIn r ≡ [])
+Met (accepted facts) r = (r .refusal ≡ None) × AllShown facts (recordsIn r)
+
+-- every answer that decode's promise allows is as the case says
+abbrev pub Holds : Case → Type 0
+Holds c = (r : Answer) → Decoded (c .esr) r → Met (c .expected) r
+
+abbrev pub AllHold : List Case → Type 0
+AllHold [] = Unit {0}
+AllHold (c ∷ cs) = Holds c × AllHold cs
