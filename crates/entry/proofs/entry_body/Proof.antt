@@ -1,0 +1,60 @@
+-- The judgement tells which part is handed back: none of the block, or the 11 bytes behind its length, which are there.
+use mathlib.Core.Path.{_≡_, sym}
+use native.Mathlib.Omega.{arith}
+use Rattle.entry.proofs.Laws.{facts, told-sound, told-refused, body-sound, body-refused}
+use Rattle.entry.specs.Entries.{judged}
+use Rattle.records.specs.Refusals.{refusalNumber}
+use borrow.Author.Needs.{needs}
+use Rattle.entry.proofs.entry_body.Statement.{statement}
+use Rattle.entry.proofs.entry_body.Tie as tie
+
+judge-requires : tie.Need-judge-requires
+judge-requires c κs = search needs
+
+number-requires : tie.Need-number-requires
+number-requires c κs = search needs
+
+sub-result : tie.Need-sub-result
+sub-result c = search needs
+
+part-result-start : tie.Need-part-result-start
+part-result-start c = search needs
+
+part-result-end : tie.Need-part-result-end
+part-result-end c = search needs
+
+returns : tie.Need-returns
+returns c =
+    let t = c .before in
+    sym (body-refused _ (told-refused (t .before .before .judge .ensures) (t .before .number .ensures) (t .if1 .taken)))
+
+-- past the test nothing is refused, so that there are 13 bytes
+free : (c : tie.Else1) → refusalNumber (judged (c .before .before .before .before .args .block .now)) ≡ 0
+free c = told-sound (c .before .before .judge .ensures) (c .before .number .ensures) (c .if1 .left)
+
+sub-result-2 : tie.Need-sub-result-2
+sub-result-2 c = omega (arith, facts _ (free c) .long)
+
+part-result-start-2 : tie.Need-part-result-start-2
+part-result-start-2 c = omega (arith, facts _ (free c) .long)
+
+part-result-end-2 : tie.Need-part-result-end-2
+part-result-end-2 c = omega (arith, facts _ (free c) .long)
+
+returns-2 : tie.Need-returns-2
+returns-2 c = sym (body-sound _ (free (c .before)))
+
+pub entry-body-spec : {M : Type 1} → statement M
+entry-body-spec =
+    tie.close
+    (tie.spec
+    judge-requires
+    number-requires
+    sub-result
+    part-result-start
+    part-result-end
+    returns
+    sub-result-2
+    part-result-start-2
+    part-result-end-2
+    returns-2)

@@ -1,0 +1,192 @@
+-- Laws of digits, of one step and of the fold, which the functions' proofs cite: each says what a definition gives under the tests
+-- that the code made.
+use Prim.Native.Nat.{ℕ, _+_, _-_, _*_, _/_, _^_, _≤_, _<_}
+use mathlib.Core.Bool.{Bool, true, false, false≢true, cond, _&&_}
+use mathlib.Core.List.{List, [], _∷_}
+use mathlib.Core.Logic.{_⊎_, inl, inr}
+use mathlib.Core.Path.{_≡_, refl, sym, ap, _∙_}
+use native.Mathlib.Nat.{le-div-iff-mul-le, div-lt-iff-lt-mul, le-of-suc-le-suc, not-suc-le-zero}
+use native.Mathlib.Numerals.{add-one}
+use native.Mathlib.Omega.{arith}
+use lib.Dec.{eqb, leb, ltb}
+use lib.ListN.{length, getD, take, drop, length-drop}
+use lib.Seq.{drop-cons, drop-length, take-all}
+use borrow.Author.Tests.{ltb-true, ltb-false, leb-false, lt-ltb, le-ltb, le-leb, lt-leb, eq-eqb, ne-eqb}
+use Rattle.number.specs.Digits.{baseOf, digitOf, noDigit}
+use Rattle.number.specs.Numbers.{stateOf, startOf, refused, grown, stepOf, stepsOf, startsWith, isHex, unsigned, numberFrom, numberIn, numberOf}
+use Rattle.number.specs.declared.NumberState.{NumberState}
+use Rattle.records.proofs.Laws.{by-number}
+use Rattle.records.specs.Refusals.{refusalNumber, refusalCarries, refusalBy}
+use Rattle.records.specs.declared.Refusal.{Refusal}
+use Rattle.records.specs.declared.Refusal.the-variants.{None, InvalidDigit, PosOverflow}
+
+and-false : (t : Bool) → (t && false) ≡ false
+and-false true = refl
+and-false false = refl
+
+and-true : (t : Bool) → (t && true) ≡ t
+and-true true = refl
+and-true false = refl
+
+-- Digits.
+
+module _ (b : ℕ) where
+  pub digit-decimal : 48 ≤ b → b ≤ 57 → digitOf b ≡ b - 48
+  unfolding digitOf
+  digit-decimal l h = simp (le-leb 48 b l, le-leb b 57 h)
+
+  pub digit-small : 97 ≤ b → b ≤ 102 → digitOf b ≡ 10 + (b - 97)
+  unfolding digitOf
+  digit-small l h = simp (le-leb 48 b (omega arith), lt-leb b 57 (omega arith), le-leb 97 b l, le-leb b 102 h)
+
+  pub digit-large : 65 ≤ b → b ≤ 70 → digitOf b ≡ 10 + (b - 65)
+  unfolding digitOf
+  digit-large l h =
+      simp (le-leb 48 b (omega arith), lt-leb b 57 (omega arith), lt-leb 97 b (omega arith), le-leb 65 b l, le-leb b 70 h)
+
+  abbrev Outside : ℕ → ℕ → Type 0
+  Outside low high = (b < low) ⊎ (high < b)
+
+  outside : (low high : ℕ) → Outside low high → (leb low b && leb b high) ≡ false
+  outside low high (inl h) = simp (lt-leb low b h)
+  outside low high (inr h) = simp (lt-leb b high h) (and-false (leb low b))
+
+  pub digit-none : Outside 48 57 → Outside 65 70 → Outside 97 102 → digitOf b ≡ noDigit
+  unfolding digitOf
+  digit-none d l s = rw (outside 48 57 d, outside 97 102 s, outside 65 70 l)
+
+-- One step.
+
+-- the test by division says whether the next value fits
+pub fits : (v k d m : ℕ) → 0 < k → d ≤ m → v ≤ (m - d) / k → v * k + d ≤ m
+fits v k d m hk hd h = let g : v * k ≤ m - d = le-div-iff-mul-le hk .0 h in omega arith
+
+pub over : (v k d m : ℕ) → 0 < k → d ≤ m → (m - d) / k < v → m < v * k + d
+over v k d m hk hd h = let g : m - d < v * k = div-lt-iff-lt-mul hk .0 h in omega arith
+
+pub base-pos : (hex : Bool) {k : ℕ} → k ≡ baseOf hex → 0 < k
+base-pos true e = omega arith
+base-pos false e = omega arith
+
+-- the number 0 is that of no refusal
+pub no-refusal : (f : Refusal) → refusalNumber f ≡ 0 → f ≡ None
+unfolding refusalBy
+no-refusal f e = sym (by-number f) ∙ ap (λ n. refusalBy n (refusalCarries f)) e
+
+pub step-refused : (st : NumberState) (b : ℕ) → (refusalNumber (st .refusal) ≡ 0 → ⊥) → stepOf st b ≡ st
+unfolding stepOf
+step-refused st b h = simp (ne-eqb _ _ h)
+
+module _ (st : NumberState) (b d k : ℕ) (hd : d ≡ digitOf b) (hk : k ≡ baseOf (st .hex)) (free : refusalNumber (st .refusal) ≡ 0) where
+  pub step-no-digit : k ≤ d → stepOf st b ≡ stateOf (st .hex) 0 InvalidDigit
+  unfolding stepOf
+  step-no-digit h = rw (← hd, ← hk) (simp (eq-eqb _ _ free, le-leb _ _ h))
+
+  pub step-over : d < k → 2 ^ 64 - 1 < st .value * k + d → stepOf st b ≡ stateOf (st .hex) 0 PosOverflow
+  unfolding stepOf
+  step-over h o = rw (← hd, ← hk) (simp (eq-eqb _ _ free, lt-leb _ _ h, lt-ltb _ _ o))
+
+  pub step-grown : d < k → st .value * k + d ≤ 2 ^ 64 - 1 → stepOf st b ≡ stateOf (st .hex) (st .value * k + d) (st .refusal)
+  unfolding stepOf
+  step-grown h o = rw (← hd, ← hk, no-refusal (st .refusal) free) (simp (lt-leb _ _ h, le-ltb _ _ o))
+
+-- a step that is accepted
+pub step-on : (hex : Bool) (v b : ℕ) → digitOf b < baseOf hex → v * baseOf hex + digitOf b < 2 ^ 64
+    → stepOf (stateOf hex v None) b ≡ stateOf hex (v * baseOf hex + digitOf b) None
+step-on hex v b d f = step-grown (stateOf hex v None) b (digitOf b) (baseOf hex) refl refl refl d (omega arith)
+
+-- what holds of a state by each case of a step holds after it
+module _ (st : NumberState) (b : ℕ) (P : NumberState → Type 0) where
+  pub step-by : (refused (st .refusal) ≡ true → P st)
+      → P (stateOf (st .hex) 0 InvalidDigit)
+      → P (stateOf (st .hex) 0 PosOverflow)
+      → (digitOf b < baseOf (st .hex) → grown st b < 2 ^ 64 → P (stateOf (st .hex) (grown st b) None))
+      → P (stepOf st b)
+  unfolding stepOf
+  step-by stays bad over next = by-refused (refused (st .refusal)) refl
+    where
+      by-value : (t : Bool) → ltb (2 ^ 64 - 1) (grown st b) ≡ t → digitOf b < baseOf (st .hex)
+          → P (cond t (stateOf (st .hex) 0 PosOverflow) (stateOf (st .hex) (grown st b) None))
+      by-value true e d = over
+      by-value false e d = next d (omega (arith, ltb-false (2 ^ 64 - 1) (grown st b) e))
+
+      by-digit : (t : Bool) → leb (baseOf (st .hex)) (digitOf b) ≡ t
+          → P (cond t (stateOf (st .hex) 0 InvalidDigit)
+          (cond (ltb (2 ^ 64 - 1) (grown st b)) (stateOf (st .hex) 0 PosOverflow) (stateOf (st .hex) (grown st b) None)))
+      by-digit true e = bad
+      by-digit false e = by-value (ltb (2 ^ 64 - 1) (grown st b)) refl (leb-false (baseOf (st .hex)) (digitOf b) e)
+
+      by-refused : (t : Bool) → refused (st .refusal) ≡ t
+          → P (cond t st
+          (cond (leb (baseOf (st .hex)) (digitOf b)) (stateOf (st .hex) 0 InvalidDigit)
+          (cond (ltb (2 ^ 64 - 1) (grown st b)) (stateOf (st .hex) 0 PosOverflow) (stateOf (st .hex) (grown st b) None))))
+      by-refused true e = stays e
+      by-refused false e = by-digit (leb (baseOf (st .hex)) (digitOf b)) refl
+
+-- The fold: one turn of the loop, and its end.
+
+pub steps-more : (st : NumberState) (s : List ℕ) (i : ℕ) → i < length s
+    → stepsOf st (drop i s) ≡ stepsOf (stepOf st (getD s i 0)) (drop (i + 1) s)
+unfolding stepsOf
+steps-more st s i h = rw (add-one, drop-cons s i 0)
+
+pub steps-done : (st : NumberState) (s : List ℕ) (i : ℕ) → i ≡ length s → stepsOf st (drop i s) ≡ st
+unfolding stepsOf
+steps-done st s i h = rw (h, drop-length)
+
+-- The whole input.
+
+-- the part `&s[k..]` of a slice, as the code has it, is what is left past k
+pub tail-part : (k : ℕ) (s : List ℕ) → take (length s - k) (drop k s) ≡ drop k s
+tail-part k s = take-all (length s - k) (drop k s) (omega (arith, length-drop k s))
+
+starts-one : (p : ℕ) (s : List ℕ) → 1 ≤ length s → startsWith (p ∷ []) s ≡ eqb (getD s 0 0) p
+unfolding startsWith
+starts-one p [] h = absurd (not-suc-le-zero h)
+starts-one p (a ∷ s) h = and-true (eqb a p)
+
+starts-two : (p q : ℕ) (s : List ℕ) → 2 ≤ length s → startsWith (p ∷ q ∷ []) s ≡ (eqb (getD s 0 0) p && eqb (getD s 1 0) q)
+unfolding startsWith
+starts-two p q [] h = absurd (not-suc-le-zero h)
+starts-two p q (a ∷ s) h = ap (_&&_ (eqb a p)) (starts-one q s (le-of-suc-le-suc h))
+
+starts-short : (p q : ℕ) (s : List ℕ) → length s < 2 → startsWith (p ∷ q ∷ []) s ≡ false
+unfolding startsWith
+starts-short p q [] h = refl
+starts-short p q (a ∷ []) h = and-false (eqb a p)
+starts-short p q (a ∷ b ∷ s) h = absurd (not-suc-le-zero (le-of-suc-le-suc (le-of-suc-le-suc h)))
+
+module _ (s : List ℕ) where
+  pub hex-short : length s < 2 → isHex s ≡ false
+  hex-short h = starts-short 48 120 s h
+
+  pub hex-by-two : 2 ≤ length s → isHex s ≡ (eqb (getD s 0 0) 48 && eqb (getD s 1 0) 120)
+  hex-by-two h = starts-two 48 120 s h
+
+  pub hex-long : isHex s ≡ true → 2 ≤ length s
+  hex-long e = by-test (ltb (length s) 2) refl
+    where
+      by-test : (t : Bool) → ltb (length s) 2 ≡ t → 2 ≤ length s
+      by-test true h = absurd (false≢true (sym (hex-short (ltb-true (length s) 2 h)) ∙ e))
+      by-test false h = ltb-false (length s) 2 h
+
+  pub unsigned-short : length s < 2 → unsigned s ≡ s
+  unsigned-short h = simp (le-ltb 1 (length s) (omega arith), and-false)
+
+  pub unsigned-bare : 1 ≤ length s → (getD s 0 0 ≡ 43 → ⊥) → unsigned s ≡ s
+  unsigned-bare some h = simp (starts-one 43 s some, ne-eqb _ _ h)
+
+  pub unsigned-plus : 2 ≤ length s → getD s 0 0 ≡ 43 → unsigned s ≡ drop 1 s
+  unsigned-plus two h = simp (starts-one 43 s (omega arith), eq-eqb _ _ h, lt-ltb 1 (length s) two)
+
+  pub number-some : (hex : Bool) → 1 ≤ length s → numberIn hex s ≡ numberFrom (stepsOf (startOf hex) (unsigned s))
+  unfolding numberIn
+  number-some hex some = simp (ne-eqb (length s) 0 (omega arith))
+
+  pub number-hex : isHex s ≡ true → numberOf s ≡ numberIn true (drop 2 s)
+  unfolding numberOf
+  number-hex h = simp h
+
+  pub number-plain : isHex s ≡ false → numberOf s ≡ numberIn false s
+  unfolding numberOf
+  number-plain h = simp h

@@ -1,0 +1,239 @@
+-- What the promise comes to: a number is accepted just where the text stands for one by the places of its digits, and zeros and a sign in
+-- front change nothing. Each is an induction over the characters.
+use Prim.Native.Char.{code}
+use Prim.Native.Nat.{ℕ, zero, suc, _+_, _*_, _^_, _≤_, _<_}
+use mathlib.Core.Bool.{Bool, true, false, false≢true, cond}
+use mathlib.Core.List.{List, [], _∷_, _++_}
+use mathlib.Core.Logic.{_⊎_, inl, inr}
+use mathlib.Core.Path.{_≡_, refl, sym, ap, _∙_}
+use native.Mathlib.Nat.{add-mul, mul-assoc, pow-zero, pow-succ', one-le-pow, le-mul-of-pos-right}
+use native.Mathlib.Omega.{arith}
+use lib.ListN.{length, replicate, length-append}
+use lib.Dec.{T, eqb, ltb, lt→ltb, ltb→lt}
+use borrow.Author.Tests.{eqb-false, ne-eqb}
+use Rattle.number.proofs.Laws.{base-pos, digit-none, step-by, step-on, unsigned-bare, unsigned-plus, number-some, number-plain}
+use Rattle.promise.proofs.Tests.{both-left, both-right, both-intro}
+use Rattle.number.specs.Digits.{baseOf, digitOf, noDigit}
+use Rattle.number.specs.Numbers.{stateOf, startOf, refused, stepOf, stepsOf, startsWith, isHex, unprefixed, unsigned, digitsIn, numberFrom, numberIn, numberOf}
+use Rattle.number.specs.Places.{areDigits, placeValue, StandsFor, prefixOf}
+use Rattle.number.specs.declared.Number.{Number}
+use Rattle.number.specs.declared.NumberState.{NumberState}
+use Rattle.records.specs.declared.Refusal.{Refusal}
+use Rattle.records.specs.declared.Refusal.the-variants.{None, Empty, InvalidDigit, PosOverflow}
+
+-- bytes above 0x7F are not digits, in either base
+pub no-digit-above : (b : ℕ) → 0x7F < b → digitOf b ≡ noDigit
+no-digit-above b h = digit-none b (inr (omega arith)) (inr (omega arith)) (inr (omega arith))
+
+-- The fold.
+
+-- characters in two parts are read one part after the other
+pub steps-append : (st : NumberState) (s t : List ℕ) → stepsOf st (s ++ t) ≡ stepsOf (stepsOf st s) t
+unfolding stepsOf
+steps-append st [] t = refl
+steps-append st (b ∷ s) t = steps-append (stepOf st b) s t
+
+-- the first offender answers: what stands behind it changes nothing
+pub steps-refused : (st : NumberState) (s : List ℕ) → refused (st .refusal) ≡ true → stepsOf st s ≡ st
+unfolding stepsOf stepOf
+steps-refused st [] h = refl
+steps-refused st (b ∷ s) h = rw h (steps-refused st s h)
+
+never-accepted : (st : NumberState) (s : List ℕ) → refused (st .refusal) ≡ true → stepsOf st s .refusal ≡ None → ⊥
+never-accepted st s h e =
+    false≢true (sym (ap refused e) ∙ ap (λ (r : NumberState). refused (r .refusal)) (steps-refused st s h) ∙ h)
+
+pub first-offender : (st : NumberState) (s t : List ℕ) → refused (stepsOf st s .refusal) ≡ true → stepsOf st (s ++ t) ≡ stepsOf st s
+first-offender st s t h = steps-append st s t ∙ steps-refused (stepsOf st s) t h
+
+-- a value has 64 bits, and is 0 where the state is refused
+abbrev Kept : ℕ → Refusal → Type 0
+Kept value refusal = (value < 2 ^ 64) × ((refusal ≡ None) ⊎ (value ≡ 0))
+
+steps-kept : (st : NumberState) (s : List ℕ) → Kept (st .value) (st .refusal) → Kept (stepsOf st s .value) (stepsOf st s .refusal)
+unfolding stepsOf
+steps-kept st [] k = k
+steps-kept st (b ∷ s) k =
+    steps-kept (stepOf st b) s
+    (step-by st b (λ (r : NumberState). Kept (r .value) (r .refusal))
+    (λ e. k) (omega arith, inr refl) (omega arith, inr refl) (λ d f. (f, inl refl)))
+
+number-kept : (hex : Bool) (s : List ℕ) → Kept (numberIn hex s .value) (numberIn hex s .refusal)
+unfolding numberIn
+number-kept hex s = by-test (eqb (length s) 0)
+  where
+    end : NumberState
+    end = stepsOf (startOf hex) (unsigned s)
+
+    none : Number
+    none = record { value = 0; refusal = Empty }
+
+    by-test : (t : Bool) → Kept (cond t none (numberFrom end) .value) (cond t none (numberFrom end) .refusal)
+    by-test true = (omega arith, inr refl)
+    by-test false = steps-kept (startOf hex) (unsigned s) (omega arith, inl refl)
+
+-- a result is below 2^64, refused or not
+pub below : (s : List ℕ) → numberOf s .value < 2 ^ 64
+unfolding numberOf
+below s = number-kept (isHex s) (unprefixed s) .0
+
+-- a refused text has the value 0
+pub refused-zero : (s : List ℕ) → (numberOf s .refusal ≡ None → ⊥) → numberOf s .value ≡ 0
+unfolding numberOf
+refused-zero s h = by-case (number-kept (isHex s) (unprefixed s) .1)
+  where
+    by-case : (numberOf s .refusal ≡ None) ⊎ (numberOf s .value ≡ 0) → numberOf s .value ≡ 0
+    by-case (inl e) = absurd (h e)
+    by-case (inr z) = z
+
+-- Place value.
+
+no-places : (k v : ℕ) → v ≡ v * k ^ 0 + 0
+no-places k v = rw (pow-zero k) (omega arith)
+
+-- one digit more in front of n others: the value so far moves up a place
+more-places : (v k d p q : ℕ) → (v * k + d) * p + q ≡ v * (k * p) + (d * p + q)
+more-places v k d p q = rw (add-mul (v * k) d p, mul-assoc v k p) (omega arith)
+
+place-more : (k v b : ℕ) (s : List ℕ) → (v * k + digitOf b) * k ^ length s + placeValue k s ≡ v * k ^ length (b ∷ s) + placeValue k (b ∷ s)
+unfolding placeValue
+place-more k v b s = rw (pow-succ' k (length s)) (more-places v k (digitOf b) (k ^ length s) (placeValue k s))
+
+-- an accepted fold had digits alone, and its value is theirs by their places, the value before them above
+abbrev Worth : ℕ → ℕ → List ℕ → NumberState → Type 0
+Worth k v s end = T (areDigits k s) × (end .value ≡ v * k ^ length s + placeValue k s)
+
+steps-worth : (hex : Bool) (v : ℕ) (s : List ℕ)
+    → stepsOf (stateOf hex v None) s .refusal ≡ None
+    → Worth (baseOf hex) v s (stepsOf (stateOf hex v None) s)
+unfolding stepsOf areDigits placeValue
+steps-worth hex v [] e = (tt, no-places (baseOf hex) v)
+steps-worth hex v (b ∷ s) e =
+    step-by (stateOf hex v None) b
+    (λ (st : NumberState). stepsOf st s .refusal ≡ None → Worth (baseOf hex) v (b ∷ s) (stepsOf st s))
+    (λ h. absurd (false≢true h))
+    (λ h. absurd (never-accepted (stateOf hex 0 InvalidDigit) s refl h))
+    (λ h. absurd (never-accepted (stateOf hex 0 PosOverflow) s refl h))
+    (λ d f h. let w = steps-worth hex (v * baseOf hex + digitOf b) s h in (
+      both-intro (ltb (digitOf b) (baseOf hex)) (areDigits (baseOf hex) s) (lt→ltb (digitOf b) (baseOf hex) d) (w .0),
+      w .1 ∙ place-more (baseOf hex) v b s,
+    ))
+    e
+
+-- and digits alone whose value has 64 bits are accepted
+steps-accepted : (hex : Bool) (v : ℕ) (s : List ℕ)
+    → T (areDigits (baseOf hex) s)
+    → v * baseOf hex ^ length s + placeValue (baseOf hex) s < 2 ^ 64
+    → stepsOf (stateOf hex v None) s ≡ stateOf hex (v * baseOf hex ^ length s + placeValue (baseOf hex) s) None
+unfolding stepsOf areDigits placeValue
+steps-accepted hex v [] t l = ap (λ (n : ℕ). stateOf hex n None) (no-places (baseOf hex) v)
+steps-accepted hex v (b ∷ s) t l =
+    let k : ℕ = baseOf hex in
+    let d : T (ltb (digitOf b) k) = both-left (ltb (digitOf b) k) (areDigits k s) t in
+    let e = place-more k v b s in
+    let one : 1 ≤ k ^ length s = one-le-pow (length s) k (base-pos hex refl) in
+    let up : v * k + digitOf b ≤ (v * k + digitOf b) * k ^ length s = le-mul-of-pos-right (v * k + digitOf b) one in
+    ap (λ (st : NumberState). stepsOf st s) (step-on hex v b (ltb→lt (digitOf b) k d) (omega arith))
+    ∙ steps-accepted hex (v * k + digitOf b) s (both-right (ltb (digitOf b) k) (areDigits k s) t) (omega arith)
+    ∙ ap (λ (n : ℕ). stateOf hex n None) e
+
+-- Acceptance.
+
+-- past its sign a text in a base is accepted just where it stands for its value
+module _ (hex : Bool) (s : List ℕ) where
+  accepted-in : 1 ≤ length s → numberIn hex s .refusal ≡ None → Worth (baseOf hex) 0 (unsigned s) (stepsOf (startOf hex) (unsigned s))
+  accepted-in some e = steps-worth hex 0 (unsigned s) (rw (number-some s hex some) at e)
+
+  some-in : numberIn hex s .refusal ≡ None → 1 ≤ length s
+  unfolding numberIn
+  some-in = by-test (eqb (length s) 0) refl
+    where
+      by-test : (t : Bool) → eqb (length s) 0 ≡ t
+          → cond t (record { value = 0; refusal = Empty }) (numberFrom (stepsOf (startOf hex) (unsigned s))) .refusal ≡ None → 1 ≤ length s
+      by-test true h e = absurd (false≢true (sym (ap refused e)))
+      by-test false h e = omega (arith, eqb-false (length s) 0 h)
+
+-- an accepted text stands for its value: the value is the positional value of its digits
+pub accepted : (s : List ℕ) → numberOf s .refusal ≡ None → StandsFor s (numberOf s .value)
+unfolding numberOf
+accepted s e =
+    let hex : Bool = isHex s in
+    let some : 1 ≤ length (unprefixed s) = some-in hex (unprefixed s) e in
+    let w = accepted-in hex (unprefixed s) some e in
+    record {
+      some = some;
+      digits = w .0;
+      worth = ap (λ (n : Number). n .value) (number-some (unprefixed s) hex some) ∙ w .1 ∙ omega arith;
+      small = below s;
+    }
+
+-- and a text that stands for a value is accepted with it
+pub accepts : (s : List ℕ) (v : ℕ) → StandsFor s v → numberOf s ≡ record { value = v; refusal = None }
+unfolding numberOf
+accepts s v w =
+    number-some (unprefixed s) (isHex s) (w .some)
+    ∙ ap numberFrom (steps-accepted (isHex s) 0 (digitsIn s) (w .digits) (omega (arith, w .small, w .worth)))
+    ∙ ap (λ (n : ℕ). record { value = n; refusal = None }) (omega (arith, w .worth))
+
+-- What may stand in front.
+
+-- a text behind what selects its base is a number in that base; where nothing selects one it must not begin with "0x" itself
+abbrev pub Bare : Bool → List ℕ → Type 0
+Bare hex s = hex ≡ false → isHex s ≡ false
+
+number-in : (hex : Bool) (s : List ℕ) → Bare hex s → numberOf (prefixOf hex ++ s) ≡ numberIn hex s
+unfolding numberOf startsWith
+number-in true s h = refl
+number-in false s h = number-plain s (h refl)
+
+-- a character that is worth nothing is no digit
+not-digit : (hex : Bool) (c d : ℕ) → digitOf c ≡ noDigit → digitOf d < baseOf hex → d ≡ c → ⊥
+not-digit true c d w l e = omega (arith, ap digitOf e)
+not-digit false c d w l e = omega (arith, ap digitOf e)
+
+steps-zeros : (hex : Bool) (n : ℕ) (s : List ℕ) → stepsOf (startOf hex) (replicate n (code "0") ++ s) ≡ stepsOf (startOf hex) s
+unfolding stepsOf stepOf digitOf
+steps-zeros hex zero s = refl
+steps-zeros true (suc n) s = steps-zeros true n s
+steps-zeros false (suc n) s = steps-zeros false n s
+
+bare-zeros : (hex : Bool) (n d : ℕ) (s : List ℕ) → digitOf d < baseOf hex → Bare hex (d ∷ s) → Bare hex (replicate n (code "0") ++ (d ∷ s))
+unfolding startsWith digitOf
+bare-zeros hex zero d s l h = h
+bare-zeros hex (suc zero) d s l h = λ e. simp (ne-eqb d (code "x") (not-digit hex (code "x") d refl l))
+bare-zeros hex (suc (suc n)) d s l h = λ e. refl
+
+unsigned-digit : (hex : Bool) (d : ℕ) (s : List ℕ) → digitOf d < baseOf hex → unsigned (d ∷ s) ≡ d ∷ s
+unfolding digitOf
+unsigned-digit hex d s l = unsigned-bare (d ∷ s) (omega arith) (not-digit hex (code "+") d refl l)
+
+unsigned-zeros : (hex : Bool) (n d : ℕ) (s : List ℕ) → digitOf d < baseOf hex
+    → unsigned (replicate n (code "0") ++ (d ∷ s)) ≡ replicate n (code "0") ++ (d ∷ s)
+unfolding digitOf
+unsigned-zeros hex zero d s l = unsigned-digit hex d s l
+unsigned-zeros true (suc n) d s l = unsigned-digit true (code "0") (replicate n (code "0") ++ (d ∷ s)) (omega arith)
+unsigned-zeros false (suc n) d s l = unsigned-digit false (code "0") (replicate n (code "0") ++ (d ∷ s)) (omega arith)
+
+-- leading zeros change nothing, refused or not: put in front of the first digit of a text, in either base
+pub leading-zeros : (hex : Bool) (n d : ℕ) (s : List ℕ) → digitOf d < baseOf hex → Bare hex (d ∷ s)
+    → numberOf (prefixOf hex ++ (replicate n (code "0") ++ (d ∷ s))) ≡ numberOf (prefixOf hex ++ (d ∷ s))
+leading-zeros hex n d s l h =
+    let z : List ℕ = replicate n (code "0") ++ (d ∷ s) in
+    number-in hex z (bare-zeros hex n d s l h)
+    ∙ number-some z hex (omega (arith, length-append (replicate n (code "0")) (d ∷ s)))
+    ∙ ap (λ (t : List ℕ). numberFrom (stepsOf (startOf hex) t)) (unsigned-zeros hex n d s l)
+    ∙ ap numberFrom (steps-zeros hex n (d ∷ s))
+    ∙ ap (λ (t : List ℕ). numberFrom (stepsOf (startOf hex) t)) (sym (unsigned-digit hex d s l))
+    ∙ sym (number-in hex (d ∷ s) h ∙ number-some (d ∷ s) hex (omega arith))
+
+-- one "+" changes nothing, refused or not: put in front of a text that has a character, and no "+" there already
+pub one-plus : (hex : Bool) (d : ℕ) (s : List ℕ) → (d ≡ code "+" → ⊥) → Bare hex (d ∷ s)
+    → numberOf (prefixOf hex ++ (code "+" ∷ d ∷ s)) ≡ numberOf (prefixOf hex ++ (d ∷ s))
+unfolding startsWith
+one-plus hex d s other h =
+    let p : List ℕ = code "+" ∷ d ∷ s in
+    number-in hex p (λ e. refl)
+    ∙ number-some p hex (omega arith)
+    ∙ ap (λ (t : List ℕ). numberFrom (stepsOf (startOf hex) t))
+    (unsigned-plus p (omega arith) refl ∙ sym (unsigned-bare (d ∷ s) (omega arith) other))
+    ∙ sym (number-in hex (d ∷ s) h ∙ number-some (d ∷ s) hex (omega arith))
