@@ -18,7 +18,7 @@ use Rattle.records.specs.Sets.{recordsOf}
 use Rattle.records.specs.declared.Record.{Record}
 use Rattle.records.specs.declared.Refusal.{Refusal}
 use Rattle.records.specs.declared.Refusal.the-variants.{None}
-use Rattle.records.proofs.Laws.{by-number}
+use Rattle.records.proofs.Laws.{no-refusal}
 use Rattle.layouts.specs.Layouts.{passes, rowsFor, checksFor}
 use Rattle.layouts.specs.Tables.{layouts, tableOf, res0, wf, mcr, mcrr, ldc, sve, ld64b, bti, pauth, hvc, brk, fp, breakpoint, softwareStep, watchpoint, instructionAbort, dataAbort, serror, undivided}
 use Rattle.esr.specs.Decode.{topRows, layoutNumber, firstFailure, refused, accepted as acceptedAnswer, failureFor, recordsFor, tableAnswer, classAnswer, answerOf}
@@ -47,7 +47,7 @@ isEmpty (x ∷ xs) = false
 abbrev met : Expected → Answer → Bool
 met (refusal number carried) r =
     eqb (refusalNumber (r .refusal)) number && (eqb (refusalCarries (r .refusal)) carried && isEmpty (recordsIn r))
-met (accepted facts) r = eqb (refusalNumber (r .refusal)) 0 && (eqb (refusalCarries (r .refusal)) 0 && allShown facts (recordsIn r))
+met (accepted facts) r = eqb (refusalNumber (r .refusal)) 0 && allShown facts (recordsIn r)
 
 abbrev allMet : List Case → Bool
 allMet [] = true
@@ -88,11 +88,6 @@ all-so [] l t = tt
 all-so (f ∷ fs) l t =
     (shown-so f l (both-left (shownIn f l) (allShown fs l) t), all-so fs l (both-right (shownIn f l) (allShown fs l) t))
 
--- a refusal of number 0 that carries 0 refuses nothing
-no-refusal : (f : Refusal) → refusalNumber f ≡ 0 → refusalCarries f ≡ 0 → f ≡ None
-unfolding refusalBy
-no-refusal f n c = sym (by-number f) ∙ ap (λ (m : ℕ). refusalBy m (refusalCarries f)) n
-
 met-so : (e : Expected) (r : Answer) → T (met e r) → Met e r
 met-so (refusal number carried) r t =
     let n : ℕ = refusalNumber (r .refusal) in
@@ -103,10 +98,7 @@ met-so (refusal number carried) r t =
     )
 met-so (accepted facts) r t =
     let n : ℕ = refusalNumber (r .refusal) in
-    let u : T (eqb (refusalCarries (r .refusal)) 0 && allShown facts (recordsIn r)) = both-right (eqb n 0) _ t in (
-      no-refusal (r .refusal) (eqb→eq n 0 (both-left (eqb n 0) _ t)) (eqb→eq (refusalCarries (r .refusal)) 0 (both-left (eqb (refusalCarries (r .refusal)) 0) _ u)),
-      all-so facts (recordsIn r) (both-right (eqb (refusalCarries (r .refusal)) 0) _ u),
-    )
+    (no-refusal (r .refusal) (eqb→eq n 0 (both-left (eqb n 0) _ t)), all-so facts (recordsIn r) (both-right (eqb n 0) _ t))
 
 all-hold : (cs : List Case) → T (allMet cs) → AllHold cs
 all-hold [] t = tt

@@ -15,8 +15,8 @@ use borrow.Author.Tests.{ltb-true, ltb-false, leb-false, lt-ltb, le-ltb, le-leb,
 use Rattle.number.specs.Digits.{baseOf, digitOf, noDigit}
 use Rattle.number.specs.Numbers.{stateOf, startOf, refused, grown, stepOf, stepsOf, startsWith, isHex, unsigned, numberFrom, numberIn, numberOf}
 use Rattle.number.specs.declared.NumberState.{NumberState}
-use Rattle.records.proofs.Laws.{by-number}
-use Rattle.records.specs.Refusals.{refusalNumber, refusalCarries, refusalBy}
+use Rattle.records.proofs.Laws.{no-refusal}
+use Rattle.records.specs.Refusals.{refusalNumber}
 use Rattle.records.specs.declared.Refusal.{Refusal}
 use Rattle.records.specs.declared.Refusal.the-variants.{None, InvalidDigit, PosOverflow}
 
@@ -67,11 +67,6 @@ over v k d m hk hd h = let g : m - d < v * k = div-lt-iff-lt-mul hk .0 h in omeg
 pub base-pos : (hex : Bool) {k : ℕ} → k ≡ baseOf hex → 0 < k
 base-pos true e = omega arith
 base-pos false e = omega arith
-
--- the number 0 is that of no refusal
-pub no-refusal : (f : Refusal) → refusalNumber f ≡ 0 → f ≡ None
-unfolding refusalBy
-no-refusal f e = sym (by-number f) ∙ ap (λ n. refusalBy n (refusalCarries f)) e
 
 pub step-refused : (st : NumberState) (b : ℕ) → (refusalNumber (st .refusal) ≡ 0 → ⊥) → stepOf st b ≡ st
 unfolding stepOf

@@ -80,6 +80,11 @@ by-number BadLength = refl
 by-number BadVersion = refl
 by-number (Unreached c) = refl
 
+-- the number 0 is that of no refusal
+pub no-refusal : (f : Refusal) → refusalNumber f ≡ 0 → f ≡ None
+unfolding refusalBy
+no-refusal f e = sym (by-number f) ∙ ap (λ n. refusalBy n (refusalCarries f)) e
+
 -- each of the numbers 0 to 17 is that of its refusal, whatever it carries
 abbrev numbered : ℕ → ℕ → Bool
 numbered c n = eqb (refusalNumber (refusalBy n c)) n
