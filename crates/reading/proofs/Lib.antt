@@ -1,0 +1,13 @@
+pub mod Own
+pub mod Applies
+pub mod Served
+pub mod Judge
+pub mod Outcome
+pub mod Reading
+pub mod Leaves
+pub mod Decides
+pub mod Sums
+pub mod Torn
+pub mod ShutOut
+pub mod Ordered
+pub mod Refusing

@@ -1,0 +1,64 @@
+-- The decoders that 01 shuts out by name ("What a promise has to decide") meet no promise of decode: two accepted values are enough.
+use mathlib.Core.Path.{_≡_, refl, sym, ap, _∙_}
+use mathlib.Core.List.{List, [], _∷_, map}
+use Prim.Native.Nat.{ℕ, suc, _^_, _<_}
+use native.Mathlib.Omega.{arith}
+use lib.ListN.{length, getD}
+use Rattle.texts.specs.Rules.{rules}
+use Rattle.texts.specs.Pool.{ruleAt, says, onList}
+use Rattle.records.specs.Bits.{fieldOf}
+use Rattle.records.specs.Refusals.{refusalBy}
+use Rattle.records.specs.Rows.{recordOf, checkOf}
+use Rattle.records.specs.Sets.{recordsOf}
+use Rattle.records.specs.declared.Record.{Record}
+use Rattle.records.specs.declared.Records.{Records}
+use Rattle.records.specs.declared.Refusal.the-variants.{None}
+use Rattle.records.specs.declared.Row.{Row}
+use Rattle.records.proofs.Laws.{same-list}
+use Rattle.layouts.specs.Layouts.{passes, rowsFor, checksFor}
+use Rattle.layouts.specs.Tables.{layouts, tableOf, res0, hvc}
+use Rattle.esr.specs.Decode.{topRows, layoutNumber, firstFailure, refused, accepted, failureFor, recordsFor, tableAnswer, classAnswer, answerOf}
+use Rattle.esr.specs.Promises.{Decoded}
+use Rattle.esr.specs.declared.Answer.{Answer}
+use Rattle.reading.specs.Leaves.{leaves, addedUp}
+use Rattle.reading.specs.Told.{Told, Decoder}
+use Rattle.reading.proofs.Leaves.{leaves-sum}
+use Rattle.reading.proofs.Outcome.{tableAt, rowsAt}
+use Rattle.reading.proofs.Reading.{accepted-read, read-list}
+
+zero-accepted : answerOf 0 .refusal ≡ None
+unfolding answerOf classAnswer tableAnswer failureFor firstFailure rowsFor checksFor layoutNumber layouts tableOf res0 passes checkOf fieldOf refusalBy accepted refused
+zero-accepted = refl
+
+call-accepted : answerOf 0x56000001 .refusal ≡ None
+unfolding answerOf classAnswer tableAnswer failureFor firstFailure rowsFor checksFor layoutNumber layouts tableOf hvc passes checkOf fieldOf refusalBy accepted refused
+call-accepted = refl
+
+module _ (d : ℕ → Answer) (meets : Decoder d) where
+  accepts : (esr : ℕ) → esr < 2 ^ 64 → answerOf esr .refusal ≡ None → d esr .refusal ≡ None
+  accepts esr small h = ap (λ (a : Answer). a .refusal) (meets esr small) ∙ h
+
+  -- No decoder refuses all.
+  pub not-all-refused : ((esr : ℕ) → esr < 2 ^ 64 → d esr .refusal ≡ None → ⊥) → ⊥
+  not-all-refused h = h 0 (omega arith) (accepts 0 (omega arith) zero-accepted)
+
+  -- No decoder answers the same fields always: their sum would be two values.
+  pub not-always-same : (s : Records) → ((esr : ℕ) → esr < 2 ^ 64 → d esr .refusal ≡ None → d esr .records ≡ s) → ⊥
+  not-always-same s h =
+      let a : _ = accepts 0 (omega arith) zero-accepted in
+      let b : _ = accepts 0x56000001 (omega arith) call-accepted in
+      let x : addedUp (leaves s) ≡ 0 =
+      ap (λ (t : Records). addedUp (leaves t)) (sym (h 0 (omega arith) a)) ∙ leaves-sum 0 (omega arith) (d 0) (meets 0 (omega arith)) a in
+      let y : addedUp (leaves s) ≡ 0x56000001 =
+      ap (λ (t : Records). addedUp (leaves t)) (sym (h 0x56000001 (omega arith) b))
+      ∙ leaves-sum 0x56000001 (omega arith) (d 0x56000001) (meets 0x56000001 (omega arith)) b in
+      omega arith
+
+  -- No decoder answers one field, of 64 bits or of any: the rows of the tables are more.
+  pub not-one-field : (esr : ℕ) → esr < 2 ^ 64 → d esr .refusal ≡ None → (x : Record) → d esr .records ≡ recordsOf (x ∷ []) → ⊥
+  unfolding topRows
+  not-one-field esr small h x e =
+      let t : Told esr (d esr) = accepted-read esr (d esr) (meets esr small) h in
+      let l : x ∷ [] ≡ t .list = same-list (x ∷ []) (t .list) (sym e ∙ t .records) in
+      let n : 1 ≡ suc (suc (suc (suc (suc (length (map (recordOf esr) (rowsAt esr))))))) = ap length (l ∙ read-list esr (t .list) (t .reading)) in
+      omega arith

@@ -1,0 +1,5 @@
+pub mod Reading
+pub mod Told
+pub mod Refusing
+pub mod Leaves
+pub mod Promises
