@@ -141,7 +141,7 @@ fn first_failure(layout: Layout, iss: u64) -> Refusal
     ensures { λ r. ⌜ r ≡ firstLaid iss layout ⌝ }
 {
     let mut i: usize = 0;
-    while i < layout.checked {
+    while i < layout.checked as usize {
         let place = layout.checks[i] as usize;
         let row = layout.rows[place];
         let refusal = row.check(iss);
@@ -160,7 +160,7 @@ fn walk(top: Records, layout: Layout, iss: u64) -> Records
 {
     let mut out = top;
     let mut i: usize = 0;
-    while i < layout.count {
+    while i < layout.count as usize {
         let row = layout.rows[i];
         let item = row.get(iss);
         let at = out.count;

@@ -24,12 +24,13 @@ mod serror;
 mod sve;
 mod wf;
 
-// The rows of ISS from high bits to low; the places of those to check, in order; the rule of ISS's own text.
+// The rows of ISS from high bits to low; the places of those to check, in order; how many there are of each; the rule of ISS's own text.
+// 130 bytes with no gap, so that a layout is copied as one block.
 pub struct Layout {
     pub rows: [Row; Records::ISS_MAX],
-    pub count: usize,
     pub checks: [u8; Records::ISS_MAX],
-    pub checked: usize,
+    pub count: u16,
+    pub checked: u8,
     pub rule: u8,
 }
 

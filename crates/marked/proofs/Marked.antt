@@ -9,7 +9,7 @@ use lib.ListN.{length}
 use lib.Text.{eqt, eqt→eq}
 use Rattle.promise.proofs.Tests.{both-left, both-right}
 use Rattle.texts.specs.Names.{names}
-use Rattle.texts.specs.Pool.{textIn, onList, ruleAt, says, byValue, said, placesOf, texts, textAt, placeIn, code, firstOf, textCode}
+use Rattle.texts.specs.Pool.{textIn, onList, ruleAt, says, byValue, said, placesOf, texts, textAt, placeIn, code, firstOf, textCode, bytes}
 use Rattle.texts.specs.Rules.{rules}
 use Rattle.records.specs.Bits.{fieldOf}
 use Rattle.records.specs.Refusals.{refusalNumber, refusalCarries, refusalBy}
@@ -24,7 +24,10 @@ use Rattle.layouts.specs.Tables.{layouts, tableOf, res0, wf, mcr, mcrr, ldc, sv
 use Rattle.esr.specs.Decode.{topRows, layoutNumber, firstFailure, refused, accepted as acceptedAnswer, failureFor, recordsFor, tableAnswer, classAnswer, answerOf}
 use Rattle.esr.specs.Promises.{Decoded}
 use Rattle.esr.specs.declared.Answer.{Answer}
-use Rattle.marked.specs.Cases.{Fact, ofValue, withText, Expected, refusal, accepted, Case, cases, Says, Shown, AllShown, recordsIn, Met, Holds, AllHold}
+use Rattle.number.specs.Digits.{digitOf}
+use Rattle.number.specs.Numbers.{numberOf, numberIn, stepsOf, stepOf, startsWith}
+use Rattle.number.specs.declared.Number.{Number}
+use Rattle.marked.specs.Cases.{Fact, ofValue, withText, Expected, refusal, accepted, Case, cases, Says, Shown, AllShown, recordsIn, Met, Holds, AllHold, NumberHolds}
 
 -- The test.
 
@@ -107,6 +110,13 @@ all-hold (c ∷ cs) t = (
   all-hold cs (both-right (met (c .expected) (answerOf (c .esr))) (allMet cs) t),
 )
 
--- Each of 01's marked cases holds of every answer that decode's promise allows.
-pub marked : AllHold cases
-marked = all-hold cases computed
+read : numberOf (bytes "0x+f") ≡ record { value = 15; refusal = None }
+unfolding bytes numberOf numberIn stepsOf stepOf startsWith digitOf
+read = refl
+
+-- Each of 01's marked cases holds of every answer that the promises allow: the values', and the number's.
+pub marked : AllHold cases × NumberHolds
+marked = (
+  all-hold cases computed,
+  λ r d. (ap (λ (n : Number). n .refusal) (d ∙ read), ap (λ (n : Number). n .value) (d ∙ read)),
+)

@@ -4,12 +4,14 @@ use Prim.Native.String.{String}
 use mathlib.Core.List.{List, [], _∷_, List·Memᴰ}
 use mathlib.Core.Path.{_≡_}
 use lib.ListN.{take}
-use Rattle.texts.specs.Pool.{textAt}
+use Rattle.texts.specs.Pool.{bytes, textAt}
 use Rattle.records.specs.Refusals.{refusalNumber, refusalCarries}
 use Rattle.records.specs.declared.Record.{Record}
 use Rattle.records.specs.declared.Refusal.the-variants.{None}
 use Rattle.esr.specs.Promises.{Decoded}
 use Rattle.esr.specs.declared.Answer.{Answer}
+use Rattle.number.specs.Promises.{Parsed}
+use Rattle.number.specs.declared.Number.{Number}
 
 -- a record of this name with this value; one of this name with this text
 pub data Fact : Type 0 where
@@ -78,3 +80,7 @@ Holds c = (r : Answer) → Decoded (c .esr) r → Met (c .expected) r
 abbrev pub AllHold : List Case → Type 0
 AllHold [] = Unit {0}
 AllHold (c ∷ cs) = Holds c × AllHold cs
+
+-- "0x+f": 15, of every answer that parse_number's promise allows
+abbrev pub NumberHolds : Type 0
+NumberHolds = (r : Number) → Parsed (bytes "0x+f") r → (r .refusal ≡ None) × (r .value ≡ 15)

@@ -3,12 +3,12 @@ use mathlib.Core.Path.{_≡_, refl, sym, ap, ap₂, _∙_, subst}
 use mathlib.Core.Bool.{Bool, true, false, cond}
 use mathlib.Core.List.{List, [], _∷_, _++_, append-assoc, append-nil}
 use Prim.Native.Nat.{ℕ, zero, suc, _+_, _-_, _*_, _/_, _%_, _^_, _≤_, _<_}
-use native.Mathlib.Nat.{mod-lt, mod-eq-of-lt, mod-one, zero-mod, div-eq-of-lt, zero-add, lt-of-lt-of-le, lt-of-le-of-lt, le-of-suc-le-suc, not-suc-le-zero}
+use native.Mathlib.Nat.{one-mul, mod-lt, mod-eq-of-lt, zero-mod, div-eq-of-lt, zero-add, lt-of-lt-of-le, lt-of-le-of-lt, le-of-suc-le-suc, not-suc-le-zero}
 use native.Mathlib.Omega.{arith}
 use lib.Bits.{bitAnd, and-mask}
 use lib.Dec.{T, eqb, ltb, eqb→eq}
 use lib.ListN.{length, getD, take, replicate, set, length-append, length-replicate, List·getD-append}
-use lib.Pow.{pow-pos, pow-mono, shr-le, ones-split, ones-lt, high}
+use lib.Pow.{pow-pos, pow-mono, pow-lt, shr-le}
 use lib.Seq.{set-append-seam, take-append-seam}
 use borrow.Author.Tests.{lt-ltb}
 use Rattle.promise.proofs.Tests.{from, from-at}
@@ -22,17 +22,15 @@ use Rattle.records.specs.declared.Refusal.the-variants.{None, InvalidRes
 
 -- Fields.
 
--- all ones of n bits, with all but w shifted out, are w ones; so a mask of them is a remainder
-pub masked : (n v w : ℕ) → w ≤ n → bitAnd v ((2 ^ n - 1) / 2 ^ (n - w)) ≡ v % 2 ^ w
-masked n v w h =
-    let e : n ≡ w + (n - w) = omega arith in
-    ap (bitAnd v)
-    (ap (λ (m : ℕ). (2 ^ m - 1) / 2 ^ (n - w)) e
-    ∙ ap (λ (m : ℕ). m / 2 ^ (n - w)) (ones-split w (n - w))
-    ∙ high (2 ^ w - 1) (n - w) (ones-lt (n - w)))
-    ∙ and-mask v w
+-- a one shifted up within n bits
+pub shifted-one : (n w : ℕ) → w < n → 1 * 2 ^ w % 2 ^ n ≡ 2 ^ w
+shifted-one n w h = ap (λ (m : ℕ). m % 2 ^ n) (one-mul (2 ^ w)) ∙ mod-eq-of-lt (pow-lt h)
 
--- a field that starts past the value's bits is 0, and so is one of no width; a width past them is the rest of the value
+-- less one it is as many ones; so a mask of them is a remainder
+pub masked : (n v w : ℕ) → w < n → bitAnd v (1 * 2 ^ w % 2 ^ n - 1) ≡ v % 2 ^ w
+masked n v w h = ap (λ (m : ℕ). bitAnd v (m - 1)) (shifted-one n w h) ∙ and-mask v w
+
+-- a field that starts past the value's bits is 0; a width past them is the rest of the value
 module _ (n v start width : ℕ) (small : v < 2 ^ n) where
   pub field-past : n ≤ start → fieldOf v start width ≡ 0
   unfolding fieldOf
@@ -42,10 +40,6 @@ module _ (n v start width : ℕ) (small : v < 2 ^ n) where
   pub field-rest : n ≤ width → fieldOf v start width ≡ v / 2 ^ start
   unfolding fieldOf
   field-rest h = mod-eq-of-lt (lt-of-le-of-lt (shr-le v start) (lt-of-lt-of-le small (pow-mono h)))
-
-pub field-none : (v start : ℕ) → fieldOf v start 0 ≡ 0
-unfolding fieldOf
-field-none v start = mod-one (v / 2 ^ start)
 
 -- a field fits its width
 pub field-lt : (v start width : ℕ) → fieldOf v start width < 2 ^ width

@@ -11,14 +11,11 @@ pub fn field(v: u64, start: u8, width: u8) -> u64
     if 64 <= start {
         return 0;
     }
-    if width == 0 {
-        return 0;
-    }
     let down = v >> start;
     if 64 <= width {
         return down;
     }
-    down & (0xFFFF_FFFF_FFFF_FFFF >> (64 - width))
+    down & ((1 << width) - 1)
 }
 
 // The Rust asserts that the field is one bit wide; here it is by its row.

@@ -20,6 +20,9 @@ loop-holds : tie.Need-loop-holds Inv-loop μ-loop
 unfolding firstLaid
 loop-holds c = (omega arith, refl)
 
+cast-loop : tie.Need-cast-loop Inv-loop μ-loop
+cast-loop c = omega (arith, c .before .pre .fewChecks)
+
 element-copy-out-place : tie.Need-element-copy-out-place Inv-loop μ-loop
 element-copy-out-place c = omega (arith, c .before .before .pre .fewChecks)
 
@@ -76,6 +79,7 @@ first-failure-spec =
     Inv-loop
     μ-loop
     loop-holds
+    cast-loop
     element-copy-out-place
     cast-place
     mul-row

@@ -22,6 +22,9 @@ loop-holds : tie.Need-loop-holds Inv-loop μ-loop
 unfolding pushedAll
 loop-holds c = (omega arith, refl)
 
+cast-loop : tie.Need-cast-loop Inv-loop μ-loop
+cast-loop c = omega (arith, c .before .pre .0 .few)
+
 mul-row : tie.Need-mul-row Inv-loop μ-loop
 mul-row c = omega (arith, c .before .before .pre .0 .few)
 
@@ -82,6 +85,7 @@ walk-spec =
     Inv-loop
     μ-loop
     loop-holds
+    cast-loop
     mul-row
     element-copy-out-row
     get-requires
