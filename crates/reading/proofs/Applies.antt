@@ -1,8 +1,8 @@
 -- The rows that apply to a value are those that the decoder keeps: a condition holds of the value's bits exactly where its computed
 -- test passes at ISS, since every test of every table lies in ISS.
 use mathlib.Core.Path.{_≡_, refl, sym, ap, _∙_, subst}
-use mathlib.Core.Bool.{Bool, true, false, cond, not, _&&_, _||_}
-use mathlib.Core.List.{List, [], _∷_, List·Memᴰ, List·Memᴰ·head, List·Memᴰ·tail, List·Memᴰ·cases-cons}
+use mathlib.Core.Bool.{Bool, true, false, cond, not, _&&_}
+use mathlib.Core.List.{List, [], _∷_, List·Memᴰ, List·Memᴰ·head, List·Memᴰ·tail}
 use Prim.Native.Nat.{ℕ, suc, _+_, _≤_}
 use lib.Dec.{T, eqb, leb, leb→le, eqb→eq, T-not, not-T}
 use borrow.Author.Tests.{eq-eqb}
@@ -12,11 +12,11 @@ use Rattle.texts.specs.Pool.{onList, says, ruleAt}
 use Rattle.records.specs.Bits.{fieldOf}
 use Rattle.records.specs.Rows.{free, unchecked}
 use Rattle.records.specs.declared.Row.{Row}
-use Rattle.layouts.specs.Shape.{Test, Condition, always, holds, _and_, _butNot_, Line, Table}
+use Rattle.layouts.specs.Shape.{Test, Condition, always, holds, _and_, _butNot_, Line}
 use Rattle.layouts.specs.Layouts.{member, passes, met, keep}
 use Rattle.layouts.specs.Tables.{Served, layouts, res0, wf, mcr, mcrr, ldc, sve, ld64b, bti, pauth, hvc, brk, fp, breakpoint, softwareStep, watchpoint, instructionAbort, dataAbort, serror, undivided}
 use Rattle.reading.specs.Refusing.{refusing}
-use Rattle.reading.specs.Reading.{Own, Holding, Meets, Applying, none, there, away, Listed}
+use Rattle.reading.specs.Reading.{Holding, Meets, Applying, none, there, away, Listed}
 use Rattle.reading.proofs.Own.{own-is, own-of, inner}
 
 -- Membership and its computed test.
@@ -101,13 +101,13 @@ all-fitted : T (every fittedTable 0 layouts)
 unfolding layouts res0 wf mcr mcrr ldc sve ld64b bti pauth hvc brk fp breakpoint softwareStep watchpoint instructionAbort dataAbort serror undivided
 all-fitted = tt
 
-fitted-in : {s : Served} (i : ℕ) (ss : List Served) → T (every fittedTable i ss) → List·Memᴰ s ss → T (every fitted 0 (s .table .lines))
-fitted-in {s} i (x ∷ xs) t (List·Memᴰ·head e) =
-    subst (λ (y : Served). T (every fitted 0 (y .table .lines))) (sym e) (both-left (fittedTable i x) (every fittedTable _ xs) t)
-fitted-in i (x ∷ xs) t (List·Memᴰ·tail m) = fitted-in _ xs (both-right (fittedTable i x) (every fittedTable _ xs) t) m
+-- what a test shows of every entry it shows of each
+pub every-mem : {A : Type 0} (f : ℕ → A → Bool) (x : A) (i : ℕ) (xs : List A) → T (every f i xs) → List·Memᴰ x xs → (j : ℕ) × T (f j x)
+every-mem f x i (y ∷ ys) t (List·Memᴰ·head e) = (i, subst (λ z. T (f i z)) (sym e) (both-left (f i y) (every f (suc i) ys) t))
+every-mem f x i (y ∷ ys) t (List·Memᴰ·tail m) = every-mem f x (suc i) ys (both-right (f i y) (every f (suc i) ys) t) m
 
 pub fitted-lines : {s : Served} → List·Memᴰ s layouts → T (every fitted 0 (s .table .lines))
-fitted-lines m = fitted-in 0 layouts all-fitted m
+fitted-lines {s} m = every-mem fittedTable s 0 layouts all-fitted m .1
 
 -- a test at ISS
 abbrev pub atIss : ℕ → Test → Bool

@@ -1,30 +1,25 @@
 -- A record holds its row exactly where it is the row's record and the row refuses nothing: by what each kind asks.
 use mathlib.Core.Path.{_≡_, refl, sym, ap, ap₂, _∙_, subst}
-use mathlib.Core.Bool.{Bool, true, false, cond, _&&_}
+use mathlib.Core.Bool.{Bool, true, false, cond}
 use mathlib.Core.List.{List, [], _∷_, _++_, map, List·Memᴰ, List·Memᴰ·head, List·Memᴰ·tail}
-use Prim.Native.Nat.{ℕ, zero, suc, _+_, _≤_, _<_}
+use Prim.Native.Nat.{ℕ, zero, suc, _+_, _≤_}
 use native.Mathlib.Omega.{arith}
 use lib.Dec.{T, eqb, leb, leb→le}
-use borrow.Author.Tests.{eq-eqb, ne-eqb, eqb-true, eqb-false}
+use borrow.Author.Tests.{eqb-true, eqb-false}
 use Rattle.promise.proofs.Tests.{every, both-left, both-right, both-intro, true-is, is-true}
-use Rattle.texts.specs.Pool.{says, firstOf, textCode}
+use Rattle.texts.specs.Pool.{says, textCode, textAt, sayingOf}
+use Rattle.texts.proofs.Laws.{text-said}
 use Rattle.records.specs.Bits.{fieldOf}
 use Rattle.records.specs.Refusals.{refusalNumber, refusalCarries, refusalBy}
 use Rattle.records.specs.Rows.{valueIn, recordOf, checkOf, asked, free, checked, unchecked}
 use Rattle.records.specs.declared.Record.{Record}
-use Rattle.records.specs.declared.Refusal.{Refusal}
-use Rattle.records.specs.declared.Refusal.the-variants.{None, InvalidRes0}
+use Rattle.records.specs.declared.Refusal.the-variants.{None}
 use Rattle.records.specs.declared.Row.{Row}
-use Rattle.records.proofs.Laws.{by-number}
 use Rattle.layouts.specs.Layouts.{member}
 use Rattle.reading.specs.Refusing.{refusing, Unmet, notZero, notListed}
-use Rattle.reading.specs.Reading.{Own, Listed, Coded, Allowed, Holds, HoldAll, none, more}
+use Rattle.reading.specs.Reading.{Allowed, Holds, HoldAll, none, more}
 use Rattle.reading.proofs.Own.{own-is, own-of, inner}
 use Rattle.reading.proofs.Applies.{numbers, fitting, false-is, of-member, listed-says, says-listed}
-
-pub none-is : (f : Refusal) → refusalNumber f ≡ 0 → f ≡ None
-unfolding refusalBy
-none-is f h = sym (by-number f) ∙ ap (λ (n : ℕ). refusalBy n (refusalCarries f)) h
 
 -- The refusal of a number that decode refuses by has that number and carries what it is given.
 
@@ -127,6 +122,13 @@ holds-is v row x h =
     by true e = h .said (says-listed (row .4) (x .value) (is-true e)) ∙ simp e
     by false e = h .unsaid (λ l. subst T e (listed-says l)) ∙ simp e
 
+-- The text of a record that holds its row is what the row's rule says of its value.
+pub held-text : (v : ℕ) (row : Row) (x : Record) → Holds v row x → textAt (x .text) ≡ sayingOf (row .4) (x .value)
+unfolding recordOf
+held-text v row x h =
+    subst (λ (y : Record). textAt (y .text) ≡ sayingOf (row .4) (y .value)) (sym (holds-is v row x h)) (text-said (row .4) (valueIn v row))
+
+-- The record of a row that refuses nothing holds it.
 pub holds-of : (v : ℕ) (row : Row) → Allowed row (valueIn v row) → Holds v row (recordOf v row)
 unfolding recordOf textCode
 holds-of v row a =

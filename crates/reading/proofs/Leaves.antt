@@ -1,20 +1,17 @@
 -- The leaves of an accepted value tile its 64 bits and add up to it: one induction over rows that leave no gap.
 use mathlib.Core.Path.{_≡_, refl, sym, ap, _∙_, subst}
-use mathlib.Core.Bool.{Bool, true, false, cond, _&&_}
+use mathlib.Core.Bool.{_&&_}
 use mathlib.Core.List.{List, [], _∷_, _++_, map}
-use Prim.Native.Nat.{ℕ, zero, suc, _+_, _*_, _/_, _%_, _^_, _≤_, _<_}
+use Prim.Native.Nat.{ℕ, suc, _+_, _*_, _/_, _%_, _^_, _≤_, _<_}
 use native.Mathlib.Nat.{mod-one, mod-eq-of-lt}
 use native.Mathlib.Omega.{arith}
 use lib.Dec.{T, eqb, leb, eqb→eq, leb→le}
-use lib.ListN.{length, take, drop}
+use lib.ListN.{length, take}
 use lib.Pow.{mod-pow-add}
 use borrow.Author.Tests.{lt-ltb, le-leb}
 use Rattle.promise.proofs.Tests.{both-left, both-right}
 use Rattle.records.specs.Bits.{fieldOf}
 use Rattle.records.specs.Rows.{recordOf}
-use Rattle.records.specs.Sets.{recordsOf}
-use Rattle.records.specs.declared.Record.{Record}
-use Rattle.records.specs.declared.Records.{Records}
 use Rattle.records.specs.declared.Refusal.the-variants.{None}
 use Rattle.records.specs.declared.Row.{Row}
 use Rattle.records.proofs.Laws.{list-of}
@@ -25,7 +22,7 @@ use Rattle.esr.specs.declared.Answer.{Answer}
 use Rattle.reading.specs.Leaves.{leavesIn, leaves, Tile, done, next, shiftedBack, addedUp}
 use Rattle.reading.specs.Promises.{SumBack}
 use Rattle.reading.specs.Told.{Told}
-use Rattle.reading.proofs.Outcome.{tableAt, rowsAt, recordsAt}
+use Rattle.reading.proofs.Outcome.{tableAt, rowsAt}
 use Rattle.reading.proofs.Reading.{accepted-read, read-list}
 
 -- Rows that leave no gap.

@@ -11,3 +11,4 @@ pub mod Torn
 pub mod ShutOut
 pub mod Ordered
 pub mod Refusing
+pub mod Given

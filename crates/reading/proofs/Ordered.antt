@@ -2,14 +2,14 @@
 -- names one row.
 use mathlib.Core.Path.{_≡_, refl, sym, ap, ap₂, _∙_, subst}
 use mathlib.Core.Bool.{Bool, true, false, cond, not, _&&_}
-use mathlib.Core.List.{List, [], _∷_, _++_, map, List·Memᴰ, List·Memᴰ·head, List·Memᴰ·tail, List·Memᴰ·not-nil, List·Memᴰ·cases-cons}
+use mathlib.Core.List.{List, [], _∷_, _++_, List·Memᴰ, List·Memᴰ·head, List·Memᴰ·tail, List·Memᴰ·not-nil, List·Memᴰ·cases-cons}
 use mathlib.Core.Logic.{_⊎_, inl, inr}
-use Prim.Native.Nat.{ℕ, zero, suc, _+_, _≤_, _<_}
+use Prim.Native.Nat.{ℕ, suc, _+_, _≤_, _<_}
 use native.Mathlib.Omega.{arith}
 use lib.Dec.{T, eqb, leb, eqb→eq, leb→le, T-not, not-T}
 use lib.ListN.{getD}
-use borrow.Author.Tests.{eq-eqb, ne-eqb}
-use Rattle.promise.proofs.Tests.{every, both-left, both-right, both-intro, is-true, true-is}
+use borrow.Author.Tests.{eq-eqb}
+use Rattle.promise.proofs.Tests.{both-left, both-right, both-intro, is-true}
 use Rattle.records.specs.Rows.{free, unchecked}
 use Rattle.records.specs.declared.Row.{Row}
 use Rattle.layouts.specs.Layouts.{asks, asking, placeOf, placesOf, pad}

@@ -13,13 +13,13 @@ use Rattle.records.specs.declared.Record.{Record}
 use Rattle.records.specs.declared.Refusal.{Refusal}
 use Rattle.records.specs.declared.Refusal.the-variants.{None, InvalidEc}
 use Rattle.records.specs.declared.Row.{Row}
+use Rattle.records.proofs.Laws.{no-refusal}
 use Rattle.layouts.specs.Shape.{Table}
 use Rattle.layouts.specs.Layouts.{rowsFor}
 use Rattle.layouts.specs.Tables.{tableOf}
 use Rattle.esr.specs.Decode.{reserved, empty, layoutNumber, refused, accepted, failureFor, recordsFor, answerOf}
 use Rattle.esr.specs.declared.Answer.{Answer}
 use Rattle.esr.proofs.Laws.{read-fails, read-passes, top-fails, class-empty, class-filled}
-use Rattle.reading.proofs.Judge.{none-is}
 
 -- the table of a value's class, the rows of it that apply, and all records
 abbrev pub tableAt : ℕ → Table
@@ -47,7 +47,7 @@ module _ (esr : ℕ) where
   by-checks : checkOf esr reserved ≡ None → (layoutNumber (fieldOf esr 26 6) ≡ empty → ⊥) → (b : Bool) → eqb (refusalNumber (failureAt esr)) 0 ≡ b → Outcome esr
   by-checks z filled true e =
       let n : refusalNumber (failureAt esr) ≡ 0 = eqb-true (refusalNumber (failureAt esr)) 0 e in
-      all-passed z filled (none-is (failureAt esr) n)
+      all-passed z filled (no-refusal (failureAt esr) n)
       (sym
       (read-passes (tableAt esr) esr (fieldOf esr 0 25) (failureAt esr) refl n
       ∙ class-filled esr (checkOf esr reserved) refl (ap refusalNumber z) (fieldOf esr 26 6) (layoutNumber (fieldOf esr 26 6)) refl refl filled))
@@ -68,7 +68,7 @@ module _ (esr : ℕ) where
 
   by-top : (b : Bool) → eqb (refusalNumber (checkOf esr reserved)) 0 ≡ b → Outcome esr
   by-top true e =
-      by-class (none-is (checkOf esr reserved) (eqb-true (refusalNumber (checkOf esr reserved)) 0 e)) (eqb (layoutNumber (fieldOf esr 26 6)) empty) refl
+      by-class (no-refusal (checkOf esr reserved) (eqb-true (refusalNumber (checkOf esr reserved)) 0 e)) (eqb (layoutNumber (fieldOf esr 26 6)) empty) refl
   by-top false e =
       let n : refusalNumber (checkOf esr reserved) ≡ 0 → ⊥ = eqb-false (refusalNumber (checkOf esr reserved)) 0 e in
       top-refused n (sym (top-fails esr (checkOf esr reserved) refl n))

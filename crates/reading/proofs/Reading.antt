@@ -1,40 +1,39 @@
 -- Demand 3: a value is accepted exactly where a reading of it exists, the reading is the answer, and there is no other. The rows that apply
 -- are the decoder's, the records that hold them are the walk's, and rows that are met are those that no check refuses.
-use mathlib.Core.Path.{_≡_, refl, sym, ap, ap₂, _∙_, subst}
+use mathlib.Core.Path.{_≡_, refl, sym, ap, _∙_, subst}
 use mathlib.Core.Bool.{Bool, true, false, cond, not, _&&_, _||_}
 use mathlib.Core.List.{List, [], _∷_, _++_, map, map-append}
-use Prim.Native.Nat.{ℕ, zero, suc, _+_, _≤_, _<_}
+use Prim.Native.Nat.{ℕ, zero, suc, _+_}
 use native.Mathlib.Nat.{zero-add, add-zero, suc-add, add-suc}
 use native.Mathlib.Omega.{arith}
-use lib.Dec.{T, eqb, eqb→eq}
-use lib.ListN.{length, getD}
-use borrow.Author.Tests.{eq-eqb, ne-eqb, eqb-true, eqb-false}
-use Rattle.promise.proofs.Tests.{every, both-left, both-right, is-true, true-is}
+use lib.Dec.{T, eqb}
+use lib.ListN.{getD}
+use borrow.Author.Tests.{eqb-true, eqb-false}
+use Rattle.promise.proofs.Tests.{every, both-left, both-right, true-is}
 use Rattle.texts.specs.Rules.{className}
 use Rattle.texts.specs.Pool.{says}
 use Rattle.records.specs.Bits.{fieldOf}
 use Rattle.records.specs.Refusals.{refusalNumber, refusalBy}
-use Rattle.records.specs.Rows.{recordOf, checkOf, asked, free, unchecked}
+use Rattle.records.specs.Rows.{recordOf, checkOf, free, unchecked}
 use Rattle.records.specs.Sets.{recordsOf}
 use Rattle.records.specs.declared.Record.{Record}
 use Rattle.records.specs.declared.Refusal.{Refusal}
 use Rattle.records.specs.declared.Refusal.the-variants.{None, InvalidEc}
 use Rattle.records.specs.declared.Row.{Row}
+use Rattle.records.proofs.Laws.{no-refusal}
 use Rattle.layouts.specs.Shape.{Table}
-use Rattle.layouts.specs.Layouts.{member, passes, keep, rowsFor, checksFor, asks, pad}
+use Rattle.layouts.specs.Layouts.{member, rowsFor, checksFor, asks, pad}
 use Rattle.layouts.specs.Tables.{Served, layouts, tableOf}
-use Rattle.layouts.proofs.Sound.{Sound, sound, covers}
-use Rattle.esr.specs.Decode.{topRows, reserved, class, empty, layoutNumber, passed, firstFailure, refused, accepted, failureFor, recordsFor, tableAnswer, classAnswer, answerOf}
+use Rattle.layouts.proofs.Sound.{sound, covers}
+use Rattle.esr.specs.Decode.{topRows, reserved, empty, layoutNumber, passed, firstFailure, refused, accepted, failureFor, recordsFor, answerOf}
 use Rattle.esr.specs.Promises.{Decoded}
 use Rattle.esr.specs.declared.Answer.{Answer}
-use Rattle.esr.proofs.Laws.{read-fails, read-passes, top-fails, class-empty, class-filled}
-use Rattle.reading.specs.Reading.{Own, Applying, HoldAll, Classed, Reading}
+use Rattle.reading.specs.Reading.{HoldAll, Reading}
 use Rattle.reading.specs.Told.{Told}
-use Rattle.reading.proofs.Own.{own-is, own-of}
 use Rattle.reading.proofs.Applies.{fitting, atIss, fitted-lines, applying-is, applying-of, kept-fitting}
 use Rattle.reading.proofs.Outcome.{tableAt, rowsAt, recordsAt, failureAt, Outcome, top-refused, class-refused, iss-refused, all-passed, outcome, refused-is, accepted-is}
 use Rattle.reading.proofs.Served.{Numbered, Serving, classed-is, classed-of, serving-classed}
-use Rattle.reading.proofs.Judge.{none-is, Pass, numbered, hold-all-is, hold-all-pass, hold-all-of, records-iss, pass-iss, iss-pass, fitting-numbered, pass-append, append-pass}
+use Rattle.reading.proofs.Judge.{Pass, numbered, hold-all-is, hold-all-pass, hold-all-of, records-iss, pass-iss, iss-pass, fitting-numbered, pass-append, append-pass}
 
 -- Rows that pass, and the first check that fails.
 
@@ -62,7 +61,7 @@ checked-at v rows (j ∷ js) h k t = by (passed (checkOf v (getD rows j pad))) r
         → (b : Bool) → eqb k j ≡ b → T (cond b true (member k js))
         → (firstFailure v rows js ≡ None → T (member k js) → checkOf v (getD rows k pad) ≡ None) → checkOf v (getD rows k pad) ≡ None
     by true p h true e t rest =
-        ap (λ (m : ℕ). checkOf v (getD rows m pad)) (eqb-true k j e) ∙ none-is (checkOf v (getD rows j pad)) (eqb-true _ 0 p)
+        ap (λ (m : ℕ). checkOf v (getD rows m pad)) (eqb-true k j e) ∙ no-refusal (checkOf v (getD rows j pad)) (eqb-true _ 0 p)
     by true p h false e t rest = rest h t
     by false p h b e t rest = absurd (eqb-false _ 0 p (ap refusalNumber h))
 

@@ -1,15 +1,15 @@
 -- Every value is accepted or refused by one number, and a refusal is the first failure in 01's order, both ways: the decoder's answer is
 -- what the first row of the checks that is not met says.
 use mathlib.Core.Path.{_≡_, refl, sym, ap, ap₂, _∙_, subst}
-use mathlib.Core.Bool.{Bool, true, false, cond, _&&_}
-use mathlib.Core.List.{List, [], _∷_, _++_, List·Memᴰ}
+use mathlib.Core.Bool.{Bool, true, false, cond}
+use mathlib.Core.List.{List, [], _∷_, List·Memᴰ}
 use mathlib.Core.Logic.{_⊎_, inl, inr}
-use Prim.Native.Nat.{ℕ, zero, suc, _+_, _≤_, _<_}
+use Prim.Native.Nat.{ℕ, zero, suc, _+_}
 use native.Mathlib.Omega.{arith}
 use lib.Dec.{T, eqb, leb}
 use lib.ListN.{getD}
-use borrow.Author.Tests.{eq-eqb, ne-eqb, eqb-true, eqb-false}
-use Rattle.promise.proofs.Tests.{every, both-left, both-right, both-intro, true-is, is-true}
+use borrow.Author.Tests.{ne-eqb, eqb-true, eqb-false}
+use Rattle.promise.proofs.Tests.{every, both-left, both-right, both-intro, true-is}
 use Rattle.texts.specs.Rules.{className}
 use Rattle.texts.specs.Pool.{says}
 use Rattle.records.specs.Bits.{fieldOf}
@@ -19,21 +19,22 @@ use Rattle.records.specs.declared.Record.{Record}
 use Rattle.records.specs.declared.Refusal.{Refusal}
 use Rattle.records.specs.declared.Refusal.the-variants.{None, InvalidEc}
 use Rattle.records.specs.declared.Row.{Row}
+use Rattle.records.proofs.Laws.{no-refusal}
 use Rattle.layouts.specs.Shape.{Table}
-use Rattle.layouts.specs.Layouts.{member, rowsFor, checksFor, placesOf, pad}
-use Rattle.layouts.specs.Tables.{Served, layouts, tableOf}
+use Rattle.layouts.specs.Layouts.{member, rowsFor, checksFor, pad}
+use Rattle.layouts.specs.Tables.{layouts}
 use Rattle.layouts.proofs.Sound.{tiled, sound}
 use Rattle.esr.specs.Decode.{reserved, class, empty, layoutNumber, passed, firstFailure, failureFor, answerOf}
 use Rattle.esr.specs.Promises.{Decoded}
 use Rattle.esr.specs.declared.Answer.{Answer}
-use Rattle.reading.specs.Reading.{Own, Allowed, Applying, Classed, Reading}
-use Rattle.reading.specs.Refusing.{refusing, Met, Unmet, notZero, notListed, Ordered, Checks, unserved, served, First, here, later, Refusing}
+use Rattle.reading.specs.Reading.{Allowed, Reading}
+use Rattle.reading.specs.Refusing.{refusing, Unmet, notZero, notListed, Ordered, Checks, unserved, served, First, here, later, Refusing}
 use Rattle.reading.proofs.Own.{own-is, own-of}
-use Rattle.reading.proofs.Applies.{numbers, fitting, atIss, false-is, of-member, fitted-lines, applying-is, applying-of, kept-fitting}
+use Rattle.reading.proofs.Applies.{numbers, fitting, false-is, of-member, fitted-lines, applying-is, applying-of}
 use Rattle.reading.proofs.Served.{Numbered, Serving, classed-is, classed-of, serving-classed, named-serving}
-use Rattle.reading.proofs.Judge.{none-is, given, Judged, passes, fails, judge, unmet-allowed, allowed-check, numbered, check-iss}
+use Rattle.reading.proofs.Judge.{given, Judged, passes, fails, judge, unmet-allowed, allowed-check, numbered, check-iss}
 use Rattle.reading.proofs.Outcome.{tableAt, rowsAt, recordsAt, failureAt, Outcome, top-refused, class-refused, iss-refused, all-passed, outcome, refused-is, accepted-is}
-use Rattle.reading.proofs.Reading.{rows-fit}
+use Rattle.reading.proofs.Reading.{rows-fit, read-accepted}
 use Rattle.reading.proofs.Ordered.{rowsIn, ordered-of, ordered-is}
 
 -- The first row of a list that refuses.
@@ -218,12 +219,16 @@ module _ (esr : ℕ) where
       by (iss-refused z f n e) = refused-is (answerOf esr) (failureAt esr) e ∙ filled-first z f
       by (all-passed z f p e) = accepted-is (answerOf esr) (recordsAt esr) e .0 ∙ sym p ∙ filled-first z f
 
+-- what a first failure says of the decoder's checks
+refusing-first : (esr n c : ℕ) → Refusing esr n c → (first esr (checksAt esr) ≡ refusalBy n c) × T (member n refusing)
+refusing-first esr n c k =
+    first-is esr n c 0 (checksAt esr) (checks-numbered esr) (subst (First esr n c) (checks-is esr (k .checks) (k .order)) (k .first))
+
 -- A value of which a number's row holds at the first failing check is refused by that number, carrying that field.
 pub refusing-refused : (esr : ℕ) (r : Answer) → Decoded esr r → (n c : ℕ) → Refusing esr n c
     → (refusalNumber (r .refusal) ≡ n) × (refusalCarries (r .refusal) ≡ c)
 refusing-refused esr r d n c k =
-    let f : (first esr (checksAt esr) ≡ refusalBy n c) × T (member n refusing) =
-    first-is esr n c 0 (checksAt esr) (checks-numbered esr) (subst (First esr n c) (checks-is esr (k .checks) (k .order)) (k .first)) in
+    let f : (first esr (checksAt esr) ≡ refusalBy n c) × T (member n refusing) = refusing-first esr n c k in
     let e : r .refusal ≡ refusalBy n c = ap (λ (a : Answer). a .refusal) d ∙ answer-first esr ∙ f .0 in
     (ap refusalNumber e ∙ given n c (f .1) .0, ap refusalCarries e ∙ given n c (f .1) .1)
 
@@ -237,7 +242,7 @@ refused-refusing esr r d h =
       order = checks-of esr;
       first =
           subst (λ (f : Refusal). First esr (refusalNumber f) (refusalCarries f) (checksAt esr)) (sym e)
-          (is-first esr 0 (checksAt esr) (checks-numbered esr) (λ z. h (none-is (r .refusal) (ap refusalNumber e ∙ z))));
+          (is-first esr 0 (checksAt esr) (checks-numbered esr) (λ z. h (no-refusal (r .refusal) (ap refusalNumber e ∙ z))));
     }
 
 -- Every value is accepted, or refused by one of the numbers 1 to 7 and 17.
@@ -245,12 +250,10 @@ pub accepted-or-refused : (esr : ℕ) (r : Answer) → Decoded esr r → (r .ref
 accepted-or-refused esr r d = by (eqb (refusalNumber (r .refusal)) 0) refl
   where
     numbered-by : (n c : ℕ) → Refusing esr n c → List·Memᴰ n refusing
-    numbered-by n c k =
-        of-member n refusing
-        (first-is esr n c 0 (checksAt esr) (checks-numbered esr) (subst (First esr n c) (checks-is esr (k .checks) (k .order)) (k .first)) .1)
+    numbered-by n c k = of-member n refusing (refusing-first esr n c k .1)
 
     by : (b : Bool) → eqb (refusalNumber (r .refusal)) 0 ≡ b → (r .refusal ≡ None) ⊎ List·Memᴰ (refusalNumber (r .refusal)) refusing
-    by true e = inl (none-is (r .refusal) (eqb-true (refusalNumber (r .refusal)) 0 e))
+    by true e = inl (no-refusal (r .refusal) (eqb-true (refusalNumber (r .refusal)) 0 e))
     by false e =
         inr
         (numbered-by (refusalNumber (r .refusal)) (refusalCarries (r .refusal))
@@ -262,3 +265,10 @@ one-refusal esr n c m d j k =
     let a : _ = refusing-refused esr (answerOf esr) refl n c j in
     let b : _ = refusing-refused esr (answerOf esr) refl m d k in
     (sym (a .0) ∙ b .0, sym (a .1) ∙ b .1)
+
+-- No value is both read and refused.
+pub not-both : (esr n c : ℕ) (l : List Record) → Reading esr l → Refusing esr n c → ⊥
+not-both esr n c l r k =
+    let z : refusalNumber (answerOf esr .refusal) ≡ 0 = ap refusalNumber (read-accepted esr (answerOf esr) refl l r .0) in
+    let e : refusalNumber (answerOf esr .refusal) ≡ n = refusing-refused esr (answerOf esr) refl n c k .0 in
+    omega (arith, given n c (refusing-first esr n c k .1) .2)

@@ -1,11 +1,9 @@
 -- The decoders that 01 shuts out by name ("What a promise has to decide") meet no promise of decode: two accepted values are enough.
 use mathlib.Core.Path.{_≡_, refl, sym, ap, _∙_}
-use mathlib.Core.List.{List, [], _∷_, map}
+use mathlib.Core.List.{[], _∷_, map}
 use Prim.Native.Nat.{ℕ, suc, _^_, _<_}
 use native.Mathlib.Omega.{arith}
-use lib.ListN.{length, getD}
-use Rattle.texts.specs.Rules.{rules}
-use Rattle.texts.specs.Pool.{ruleAt, says, onList}
+use lib.ListN.{length}
 use Rattle.records.specs.Bits.{fieldOf}
 use Rattle.records.specs.Refusals.{refusalBy}
 use Rattle.records.specs.Rows.{recordOf, checkOf}
@@ -13,17 +11,15 @@ use Rattle.records.specs.Sets.{recordsOf}
 use Rattle.records.specs.declared.Record.{Record}
 use Rattle.records.specs.declared.Records.{Records}
 use Rattle.records.specs.declared.Refusal.the-variants.{None}
-use Rattle.records.specs.declared.Row.{Row}
 use Rattle.records.proofs.Laws.{same-list}
 use Rattle.layouts.specs.Layouts.{passes, rowsFor, checksFor}
 use Rattle.layouts.specs.Tables.{layouts, tableOf, res0, hvc}
-use Rattle.esr.specs.Decode.{topRows, layoutNumber, firstFailure, refused, accepted, failureFor, recordsFor, tableAnswer, classAnswer, answerOf}
-use Rattle.esr.specs.Promises.{Decoded}
+use Rattle.esr.specs.Decode.{topRows, layoutNumber, firstFailure, refused, accepted, failureFor, tableAnswer, classAnswer, answerOf}
 use Rattle.esr.specs.declared.Answer.{Answer}
 use Rattle.reading.specs.Leaves.{leaves, addedUp}
 use Rattle.reading.specs.Told.{Told, Decoder}
 use Rattle.reading.proofs.Leaves.{leaves-sum}
-use Rattle.reading.proofs.Outcome.{tableAt, rowsAt}
+use Rattle.reading.proofs.Outcome.{rowsAt}
 use Rattle.reading.proofs.Reading.{accepted-read, read-list}
 
 zero-accepted : answerOf 0 .refusal ≡ None

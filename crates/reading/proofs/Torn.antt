@@ -1,15 +1,14 @@
 -- An entry whose writing was torn is refused: a half of all ones sets bits 37..64, or makes a class that no layout serves.
-use mathlib.Core.Path.{_≡_, refl, sym, ap, _∙_, subst}
+use mathlib.Core.Path.{_≡_, refl, sym, ap, _∙_}
 use mathlib.Core.Logic.{_⊎_, inl, inr}
 use Prim.Native.Nat.{ℕ}
 use native.Mathlib.Omega.{arith}
 use Rattle.records.specs.Bits.{fieldOf}
-use Rattle.records.specs.Refusals.{refusalNumber, refusalCarries, refusalBy}
+use Rattle.records.specs.Refusals.{refusalNumber}
 use Rattle.records.specs.Rows.{checkOf}
-use Rattle.records.specs.declared.Refusal.{Refusal}
 use Rattle.records.specs.declared.Refusal.the-variants.{None, InvalidRes0, InvalidEc}
 use Rattle.layouts.specs.Tables.{layouts}
-use Rattle.esr.specs.Decode.{reserved, empty, layoutNumber, refused, answerOf}
+use Rattle.esr.specs.Decode.{reserved, empty, layoutNumber}
 use Rattle.esr.specs.Promises.{Decoded}
 use Rattle.esr.specs.declared.Answer.{Answer}
 use Rattle.reading.specs.Reading.{Own}

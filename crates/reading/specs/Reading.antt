@@ -4,7 +4,7 @@ use Prim.Native.Nat.{ℕ, _+_, _*_, _^_, _<_}
 use Prim.Native.String.{String}
 use mathlib.Core.List.{List, [], _∷_, _++_, List·Memᴰ}
 use mathlib.Core.Path.{_≡_}
-use Rattle.texts.specs.Rules.{Rule, _says_}
+use Rattle.texts.specs.Rules.{_says_}
 use Rattle.texts.specs.Pool.{ruleAt, firstOf}
 use Rattle.records.specs.Rows.{free, checked, unchecked}
 use Rattle.records.specs.declared.Record.{Record}

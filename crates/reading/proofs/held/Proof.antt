@@ -1,6 +1,5 @@
 -- By the test of the count.
 use borrow.Author.Tests.{lt-ltb, le-ltb}
-use borrow.Author.Needs.{needs}
 use Rattle.reading.proofs.held.Statement.{statement}
 use Rattle.reading.proofs.held.Tie as tie
 

@@ -1,0 +1,320 @@
+-- A refusal is given when 01's table says: the rows that refuse by a number have its field and lack its values, by one computed test.
+use mathlib.Core.Path.{_≡_, refl, sym, _∙_, subst}
+use mathlib.Core.Bool.{Bool, true, false, cond, _&&_, _||_}
+use mathlib.Core.List.{List, [], _∷_, List·Memᴰ, List·Memᴰ·head, List·Memᴰ·tail, List·Memᴰ·cases-cons, List·Memᴰ·eq-of-singleton, List·Memᴰ·not-nil}
+use mathlib.Core.Logic.{_⊎_, inl, inr}
+use Prim.Native.Nat.{ℕ, _^_, _≤_, _<_}
+use native.Mathlib.Nat.{zero-add}
+use native.Mathlib.Omega.{arith}
+use lib.Dec.{T, eqb, ltb, eqb→eq}
+use borrow.Author.Tests.{eq-eqb, ltb-true, ltb-false}
+use Rattle.promise.proofs.Tests.{every, both-left, both-right, from, from-at, is-true}
+use Rattle.texts.specs.Rules.{rules, className, debugStatus, faultStatus, serrorStatus}
+use Rattle.texts.specs.Pool.{says, onList, ruleAt}
+use Rattle.records.specs.Refusals.{refusalNumber, refusalCarries}
+use Rattle.records.specs.declared.Refusal.the-variants.{None}
+use Rattle.records.specs.declared.Row.{Row}
+use Rattle.layouts.specs.Shape.{Condition, always, holds, _and_, _butNot_, Line}
+use Rattle.layouts.specs.Layouts.{member}
+use Rattle.layouts.specs.Tables.{Served, layouts, res0, wf, mcr, mcrr, ldc, sve, ld64b, bti, pauth, hvc, brk, fp, breakpoint, softwareStep, watchpoint, instructionAbort, dataAbort, serror, undivided}
+use Rattle.esr.specs.Decode.{reserved, class}
+use Rattle.esr.specs.Promises.{Decoded}
+use Rattle.esr.specs.declared.Answer.{Answer}
+use Rattle.reading.specs.Reading.{Own, Meets, Applying, none, there, away, Listed, Classed}
+use Rattle.reading.specs.Refusing.{Unmet, notZero, notListed, Asking, Ordered, none, asked, away, Checks, unserved, served, First, here, later, Refusing}
+use Rattle.reading.specs.Given.{ClassIn, GivenWhen}
+use Rattle.reading.proofs.Own.{own-is}
+use Rattle.reading.proofs.Applies.{every-mem, of-member, says-listed}
+use Rattle.reading.proofs.Served.{classed-is}
+use Rattle.reading.proofs.Refusing.{refused-refusing}
+
+-- The test of a line of a layout.
+
+-- a condition asks that the status is 0x10
+abbrev sixteen : Condition → Bool
+sixteen always = false
+sixteen (holds t) = eqb (t .start) 0 && (eqb (t .width) 6 && every (λ i x. eqb x 0x10) 0 (t .among))
+sixteen (c and d) = sixteen c || sixteen d
+sixteen (c butNot d) = sixteen c
+
+abbrev at : ℕ → ℕ → Row → Bool
+at s w r = eqb (r .0) s && eqb (r .1) w
+
+abbrev onlyFor : List ℕ → List ℕ → Bool
+onlyFor cs classes = every (λ i c. member c cs) 0 classes
+
+abbrev lacks : List ℕ → ℕ → Row → Bool
+lacks xs n r = from (λ x. says (r .4) x || member x xs) 0 n
+
+abbrev for : ℕ → Row → Bool → Bool
+for n r b = cond (eqb (r .5) n) b true
+
+abbrev test3 : Row → Bool
+test3 r = at 0 6 r && member (r .4) (debugStatus .number ∷ faultStatus .number ∷ serrorStatus .number ∷ [])
+
+abbrev test4 : List ℕ → Line → Bool
+test4 classes l = at 11 2 (l .row) && (onlyFor (0x20 ∷ 0x21 ∷ 0x24 ∷ 0x25 ∷ []) classes && (lacks (1 ∷ []) 4 (l .row) && sixteen (l .condition)))
+
+abbrev test5 : List ℕ → Row → Bool
+test5 classes r = at 10 3 r && (onlyFor (0x2F ∷ []) classes && lacks (4 ∷ 5 ∷ 7 ∷ []) 8 r)
+
+abbrev test6 : List ℕ → Row → Bool
+test6 classes r = at 1 3 r && (onlyFor (0x06 ∷ []) classes && lacks (5 ∷ 7 ∷ []) 8 r)
+
+abbrev test7 : List ℕ → Row → Bool
+test7 classes r = at 0 25 r && (onlyFor (0x0A ∷ []) classes && lacks [] 3 r)
+
+abbrev test17 : Row → Bool
+test17 r = eqb (r .1) 2 && lacks [] 4 r
+
+abbrev tested : List ℕ → ℕ → Line → Bool
+tested classes i l =
+    for 2 (l .row) false
+    && (for 3 (l .row) (test3 (l .row))
+    && (for 4 (l .row) (test4 classes l)
+    && (for 5 (l .row) (test5 classes (l .row))
+    && (for 6 (l .row) (test6 classes (l .row))
+    && (for 7 (l .row) (test7 classes (l .row))
+    && for 17 (l .row) (test17 (l .row)))))))
+
+abbrev testedTable : ℕ → Served → Bool
+testedTable i s = every (tested (s .classes)) 0 (s .table .lines)
+
+-- the computed test
+all-tested : T (every testedTable 0 layouts)
+unfolding layouts res0 wf mcr mcrr ldc sve ld64b bti pauth hvc brk fp breakpoint softwareStep watchpoint instructionAbort dataAbort serror undivided rules says onList ruleAt
+all-tested = tt
+
+-- What the test shows of a line whose row is not met.
+
+for-at : (n : ℕ) (r : Row) (b : Bool) → T (for n r b) → r .5 ≡ n → T b
+for-at n r b t e = subst (λ (a : Bool). T (cond a b true)) (eq-eqb (r .5) n e) t
+
+or-else : (a b : Bool) → T (a || b) → (T a → ⊥) → T b
+or-else true b t h = absurd (h tt)
+or-else false b t h = t
+
+sixteen-own : (v : ℕ) (c : Condition) → T (sixteen c) → Meets v c → Own v 0 6 0x10
+sixteen-own v always t m = absurd t
+sixteen-own v (holds x) t m =
+    let u : T (eqb (x .width) 6 && every (λ i y. eqb y 0x10) 0 (x .among)) = both-right (eqb (x .start) 0) _ t in
+    let w : T (every (λ i y. eqb y 0x10) 0 (x .among)) = both-right (eqb (x .width) 6) _ u in
+    let s : x .start ≡ 0 = eqb→eq (x .start) 0 (both-left (eqb (x .start) 0) _ t) in
+    let z : x .width ≡ 6 = eqb→eq (x .width) 6 (both-left (eqb (x .width) 6) _ u) in
+    let e : m .value ≡ 0x10 = eqb→eq (m .value) 0x10 (every-mem (λ i y. eqb y 0x10) (m .value) 0 (x .among) w (m .among) .1) in
+    subst (λ (y : ℕ). Own v 0 6 y) e (subst (λ (y : ℕ). Own v 0 y (m .value)) z (subst (λ (y : ℕ). Own v y (x .width) (m .value)) s (m .own)))
+sixteen-own v (c and d) t m = by (sixteen c) refl t (λ u. sixteen-own v c u (m .0)) (λ u. sixteen-own v d u (m .1))
+  where
+    by : (a : Bool) → sixteen c ≡ a → T (a || sixteen d) → (T (sixteen c) → Own v 0 6 0x10) → (T (sixteen d) → Own v 0 6 0x10) → Own v 0 6 0x10
+    by true e t f g = f (is-true e)
+    by false e t f g = g t
+sixteen-own v (c butNot d) t m = sixteen-own v c t (m .0)
+
+unmet-own : {v : ℕ} {row : Row} {n c : ℕ} → Unmet v row n c → Own v (row .0) (row .1) c
+unmet-own (notZero o k e h) = o
+unmet-own (notListed o k e h) = o
+
+unmet-kind : {v : ℕ} {row : Row} {n c : ℕ} → Unmet v row n c → row .5 ≡ n
+unmet-kind (notZero o k e h) = k ∙ sym e
+unmet-kind (notListed o k e h) = sym e
+
+unmet-zero : {v : ℕ} {row : Row} {n c : ℕ} → Unmet v row n c → n ≡ 1 → c ≡ 0 → ⊥
+unmet-zero (notZero o k e h) i = h
+unmet-zero (notListed o k e h) i = absurd (k .notChecked (sym e ∙ i))
+
+unmet-list : {v : ℕ} {row : Row} {n c : ℕ} → Unmet v row n c → (n ≡ 1 → ⊥) → Listed (row .4) c → ⊥
+unmet-list (notZero o k e h) i = absurd (i e)
+unmet-list (notListed o k e h) i = h
+
+module _ (v n c : ℕ) (s : Served) (k : Classed v s) (i : ℕ) (l : Line) (m : Meets v (l .condition)) (t : T (tested (s .classes) i l))
+    (u : Unmet v (l .row) n c) where
+  own-at : (a b : ℕ) → T (at a b (l .row)) → Own v a b c
+  own-at a b x =
+      let p : l .row .0 ≡ a = eqb→eq (l .row .0) a (both-left (eqb (l .row .0) a) _ x) in
+      let q : l .row .1 ≡ b = eqb→eq (l .row .1) b (both-right (eqb (l .row .0) a) _ x) in
+      subst (λ (y : ℕ). Own v a y c) q (subst (λ (y : ℕ). Own v y (l .row .1) c) p (unmet-own u))
+
+  class-in : (cs : List ℕ) → T (onlyFor cs (s .classes)) → ClassIn v cs
+  class-in cs x =
+      record {
+        class = k .class;
+        own = k .own;
+        among = of-member (k .class) cs (every-mem (λ j y. member y cs) (k .class) 0 (s .classes) x (k .serves) .1);
+      }
+
+  value-in : (xs : List ℕ) (b : ℕ) → T (lacks xs b (l .row)) → c < b → (n ≡ 1 → ⊥) → List·Memᴰ c xs
+  value-in xs b x h e =
+      of-member c xs
+      (or-else (says (l .row .4) c) (member c xs)
+      (subst (λ (y : ℕ). T (says (l .row .4) y || member y xs)) (zero-add c) (from-at (λ y. says (l .row .4) y || member y xs) 0 b c x h))
+      (λ y. unmet-list u e (says-listed (l .row .4) c y)))
+
+  line-given : GivenWhen v n c
+  line-given =
+      let r : Row = l .row in
+      let cs : List ℕ = s .classes in
+      let t3 : _ = both-right (for 2 r false) _ t in
+      let t4 : _ = both-right (for 3 r (test3 r)) _ t3 in
+      let t5 : _ = both-right (for 4 r (test4 cs l)) _ t4 in
+      let t6 : _ = both-right (for 5 r (test5 cs r)) _ t5 in
+      let t7 : _ = both-right (for 6 r (test6 cs r)) _ t6 in
+      let t17 : _ = both-right (for 7 r (test7 cs r)) _ t7 in
+      record {
+        invalidRes0 = unmet-zero u;
+        invalidEc = λ e. absurd (for-at 2 r false (both-left (for 2 r false) _ t) (unmet-kind u ∙ e));
+        invalidFsc =
+            λ e.
+            let x : T (test3 r) = for-at 3 r (test3 r) (both-left (for 3 r (test3 r)) _ t3) (unmet-kind u ∙ e) in (
+              own-at 0 6 (both-left (at 0 6 r) _ x),
+              record { rule = r .4; among = of-member (r .4) _ (both-right (at 0 6 r) _ x); unlisted = unmet-list u (λ f. omega arith) },
+            );
+        invalidSet =
+            λ e.
+            let x : T (test4 cs l) = for-at 4 r (test4 cs l) (both-left (for 4 r (test4 cs l)) _ t4) (unmet-kind u ∙ e) in
+            let y : _ = both-right (at 11 2 r) _ x in
+            let z : _ = both-right (onlyFor (0x20 ∷ 0x21 ∷ 0x24 ∷ 0x25 ∷ []) cs) _ y in
+            let o : Own v 11 2 c = own-at 11 2 (both-left (at 11 2 r) _ x) in (
+              o,
+              List·Memᴰ·eq-of-singleton (value-in (1 ∷ []) 4 (both-left (lacks (1 ∷ []) 4 r) _ z) (o .fits) (λ f. omega arith)),
+              sixteen-own v (l .condition) (both-right (lacks (1 ∷ []) 4 r) _ z) m,
+              class-in (0x20 ∷ 0x21 ∷ 0x24 ∷ 0x25 ∷ []) (both-left (onlyFor (0x20 ∷ 0x21 ∷ 0x24 ∷ 0x25 ∷ []) cs) _ y),
+            );
+        invalidAet =
+            λ e.
+            let x : T (test5 cs r) = for-at 5 r (test5 cs r) (both-left (for 5 r (test5 cs r)) _ t5) (unmet-kind u ∙ e) in
+            let y : _ = both-right (at 10 3 r) _ x in
+            let o : Own v 10 3 c = own-at 10 3 (both-left (at 10 3 r) _ x) in (
+              o,
+              value-in (4 ∷ 5 ∷ 7 ∷ []) 8 (both-right (onlyFor (0x2F ∷ []) cs) _ y) (o .fits) (λ f. omega arith),
+              class-in (0x2F ∷ []) (both-left (onlyFor (0x2F ∷ []) cs) _ y),
+            );
+        invalidAm =
+            λ e.
+            let x : T (test6 cs r) = for-at 6 r (test6 cs r) (both-left (for 6 r (test6 cs r)) _ t6) (unmet-kind u ∙ e) in
+            let y : _ = both-right (at 1 3 r) _ x in
+            let o : Own v 1 3 c = own-at 1 3 (both-left (at 1 3 r) _ x) in (
+              o,
+              value-in (5 ∷ 7 ∷ []) 8 (both-right (onlyFor (0x06 ∷ []) cs) _ y) (o .fits) (λ f. omega arith),
+              class-in (0x06 ∷ []) (both-left (onlyFor (0x06 ∷ []) cs) _ y),
+            );
+        invalidLd64bIss =
+            λ e.
+            let x : T (test7 cs r) = for-at 7 r (test7 cs r) (both-left (for 7 r (test7 cs r)) _ t7) (unmet-kind u ∙ e) in
+            let y : _ = both-right (at 0 25 r) _ x in (
+              own-at 0 25 (both-left (at 0 25 r) _ x),
+              above (ltb c 3) refl (λ h. value-in [] 3 (both-right (onlyFor (0x0A ∷ []) cs) _ y) h (λ f. omega arith)),
+              class-in (0x0A ∷ []) (both-left (onlyFor (0x0A ∷ []) cs) _ y),
+            );
+        unreached =
+            λ e.
+            let x : T (test17 r) = for-at 17 r (test17 r) t17 (unmet-kind u ∙ e) in
+            let w : r .1 ≡ 2 = eqb→eq (r .1) 2 (both-left (eqb (r .1) 2) _ x) in
+            List·Memᴰ·not-nil
+            (value-in [] 4 (both-right (eqb (r .1) 2) _ x) (subst (λ (y : ℕ). c < 2 ^ y) w (unmet-own u .fits)) (λ f. omega arith));
+      }
+    where
+      above : (b : Bool) → ltb c 3 ≡ b → (c < 3 → List·Memᴰ c []) → 2 < c
+      above true e h = absurd (List·Memᴰ·not-nil (h (ltb-true c 3 e)))
+      above false e h = let g : 3 ≤ c = ltb-false c 3 e in omega arith
+
+-- The row of the first failure, and its line.
+
+first-row : {v n c : ℕ} (rows : List Row) → First v n c rows → (row : Row) × List·Memᴰ row rows × Unmet v row n c
+first-row (r ∷ rs) (here u) = (r, List·Memᴰ·head refl, u)
+first-row (r ∷ rs) (later m f) = let x : _ = first-row rs f in (x .0, List·Memᴰ·tail (x .1), x .2)
+
+ordered-among : (row : Row) (rows : List Row) (ss : List ℕ) (cs : List Row) → Ordered rows ss cs → List·Memᴰ row cs → List·Memᴰ row rows
+ordered-among row rows [] cs none m = absurd (List·Memᴰ·not-nil m)
+ordered-among row rows (s ∷ ss) cs (asked a o) m = by a (List·Memᴰ·cases-cons m) (ordered-among row rows ss _ o)
+  where
+    by : {r : Row} {rs : List Row} → Asking rows s r → (row ≡ r) ⊎ List·Memᴰ row rs → (List·Memᴰ row rs → List·Memᴰ row rows) → List·Memᴰ row rows
+    by {r} a (inl e) rest = subst (λ (x : Row). List·Memᴰ x rows) (sym e) (a .among)
+    by a (inr k) rest = rest k
+ordered-among row rows (s ∷ ss) cs (away h o) m = ordered-among row rows ss cs o m
+
+record Of (v : ℕ) (ls : List Line) (row : Row) : Type 0 where
+  line : Line
+  among : List·Memᴰ line ls
+  meets : Meets v (line .condition)
+  its : row ≡ line .row
+
+applying-line : (v : ℕ) (row : Row) (ls : List Line) (rs : List Row) → Applying v ls rs → List·Memᴰ row rs → Of v ls row
+applying-line v row [] rs none m = absurd (List·Memᴰ·not-nil m)
+applying-line v row (l ∷ ls) rs (there c a) m = by c (List·Memᴰ·cases-cons m) (applying-line v row ls _ a)
+  where
+    by : {xs : List Row} → Meets v (l .condition) → (row ≡ l .row) ⊎ List·Memᴰ row xs → (List·Memᴰ row xs → Of v ls row) → Of v (l ∷ ls) row
+    by c (inl e) rest = record { line = l; among = List·Memᴰ·head refl; meets = c; its = e }
+    by c (inr k) rest =
+        record { line = rest k .line; among = List·Memᴰ·tail (rest k .among); meets = rest k .meets; its = rest k .its }
+applying-line v row (l ∷ ls) rs (away h a) m =
+    let x : Of v ls row = applying-line v row ls rs a m in
+    record { line = x .line; among = List·Memᴰ·tail (x .among); meets = x .meets; its = x .its }
+
+module _ (v n c : ℕ) where
+  top-given : Unmet v reserved n c → GivenWhen v n c
+  top-given u =
+      let e : 1 ≡ n = unmet-kind u in
+      record {
+        invalidRes0 = unmet-zero u;
+        invalidEc = λ f. absurd (omega arith);
+        invalidFsc = λ f. absurd (omega arith);
+        invalidSet = λ f. absurd (omega arith);
+        invalidAet = λ f. absurd (omega arith);
+        invalidAm = λ f. absurd (omega arith);
+        invalidLd64bIss = λ f. absurd (omega arith);
+        unreached = λ f. omega arith;
+      }
+
+  class-given : Unmet v class n c → GivenWhen v n c
+  class-given u =
+      let e : 2 ≡ n = unmet-kind u in
+      record {
+        invalidRes0 = λ f. absurd (omega arith);
+        invalidEc =
+            λ f. (
+              unmet-own u,
+              λ s k.
+                  unmet-list u (λ g. omega arith)
+                  (subst (Listed (className .number)) (sym (own-is (unmet-own u))) (says-listed (className .number) _ (classed-is v s k .named))),
+            );
+        invalidFsc = λ f. absurd (omega arith);
+        invalidSet = λ f. absurd (omega arith);
+        invalidAet = λ f. absurd (omega arith);
+        invalidAm = λ f. absurd (omega arith);
+        invalidLd64bIss = λ f. absurd (omega arith);
+        unreached = λ f. omega arith;
+      }
+
+  own-given : (s : Served) (rows cs : List Row) (row : Row) → Classed v s → Applying v (s .table .lines) rows → Ordered rows (s .table .order) cs
+      → List·Memᴰ row cs → Unmet v row n c → GivenWhen v n c
+  own-given s rows cs row k a o m u =
+      let x : Of v (s .table .lines) row = applying-line v row (s .table .lines) rows a (ordered-among row rows (s .table .order) cs o m) in
+      let t : (j : ℕ) × T (tested (s .classes) j (x .line)) =
+      every-mem (tested (s .classes)) (x .line) 0 (s .table .lines) (every-mem testedTable s 0 layouts all-tested (k .layout) .1) (x .among) in
+      line-given v n c s k (t .0) (x .line) (x .meets) (t .1) (subst (λ (r : Row). Unmet v r n c) (x .its) u)
+
+  row-given : (cs : List Row) (row : Row) → Checks v cs → List·Memᴰ row cs → Unmet v row n c → GivenWhen v n c
+  row-given cs row (unserved h) m u = by (List·Memᴰ·cases-cons m)
+    where
+      by : (row ≡ reserved) ⊎ List·Memᴰ row (class ∷ []) → GivenWhen v n c
+      by (inl e) = top-given (subst (λ (r : Row). Unmet v r n c) e u)
+      by (inr k) = class-given (subst (λ (r : Row). Unmet v r n c) (List·Memᴰ·eq-of-singleton k) u)
+  row-given all row (served {s} {rows} {cs} k a o) m u = by (List·Memᴰ·cases-cons m)
+    where
+      behind : (row ≡ class) ⊎ List·Memᴰ row cs → GivenWhen v n c
+      behind (inl e) = class-given (subst (λ (r : Row). Unmet v r n c) e u)
+      behind (inr j) = own-given s rows cs row k a o j u
+
+      by : (row ≡ reserved) ⊎ List·Memᴰ row (class ∷ cs) → GivenWhen v n c
+      by (inl e) = top-given (subst (λ (r : Row). Unmet v r n c) e u)
+      by (inr j) = behind (List·Memᴰ·cases-cons j)
+
+-- A value that is refused by a number is as 01's table of refusals says of that number, and the refusal carries what it says.
+pub refusing-given : (v n c : ℕ) → Refusing v n c → GivenWhen v n c
+refusing-given v n c r =
+    let x : (row : Row) × List·Memᴰ row (r .checks) × Unmet v row n c = first-row (r .checks) (r .first) in
+    row-given v n c (r .checks) (x .0) (r .order) (x .1) (x .2)
+
+-- The same of any answer that the promise of decode allows.
+pub refused-given : (esr : ℕ) (r : Answer) → Decoded esr r → (r .refusal ≡ None → ⊥) → GivenWhen esr (refusalNumber (r .refusal)) (refusalCarries (r .refusal))
+refused-given esr r d h = refusing-given esr _ _ (refused-refusing esr r d h)
