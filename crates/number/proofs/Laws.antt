@@ -1,7 +1,7 @@
 -- Laws of digits, of one step and of the fold, which the functions' proofs cite: each says what a definition gives under the tests
 -- that the code made.
 use Prim.Native.Nat.{ℕ, _+_, _-_, _*_, _/_, _^_, _≤_, _<_}
-use mathlib.Core.Bool.{Bool, true, false, false≢true, cond, _&&_}
+use mathlib.Core.Bool.{Bool, true, false, false≢true, cond, _&&_, and-true, and-false}
 use mathlib.Core.List.{List, [], _∷_}
 use mathlib.Core.Logic.{_⊎_, inl, inr}
 use mathlib.Core.Path.{_≡_, refl, sym, ap, _∙_}
@@ -19,14 +19,6 @@ use Rattle.records.proofs.Laws.{no-refusal}
 use Rattle.records.specs.Refusals.{refusalNumber}
 use Rattle.records.specs.declared.Refusal.{Refusal}
 use Rattle.records.specs.declared.Refusal.the-variants.{None, InvalidDigit, PosOverflow}
-
-and-false : (t : Bool) → (t && false) ≡ false
-and-false true = refl
-and-false false = refl
-
-and-true : (t : Bool) → (t && true) ≡ t
-and-true true = refl
-and-true false = refl
 
 -- Digits.
 
