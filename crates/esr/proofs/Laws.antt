@@ -13,7 +13,7 @@ use Rattle.promise.proofs.Tests.{every, every-at, both-left, both-right}
 use Rattle.records.specs.Bits.{fieldOf}
 use Rattle.records.specs.Refusals.{refusalNumber}
 use Rattle.records.specs.Rows.{recordOf, checkOf}
-use Rattle.records.specs.Sets.{setRoom, recordsOf, pushed, pushedAll}
+use Rattle.records.specs.Sets.{setRoom, noRecord, recordsOf, pushed, pushedAll}
 use Rattle.records.specs.declared.Record.{Record}
 use Rattle.records.specs.declared.Records.{Records}
 use Rattle.records.specs.declared.Refusal.{Refusal}
@@ -165,3 +165,42 @@ module _ (esr : ℕ) (f : Refusal) (is : f ≡ checkOf esr reserved) where
     pub class-filled : (number ≡ empty → ⊥) → tableAnswer (tableOf number) esr (fieldOf esr 0 25) ≡ answerOf esr
     unfolding classAnswer
     class-filled h = (rw (ne-eqb number empty h) refl) ∙ classed
+
+-- Every set that the decoder gives has room for what it counts: a set is a list and the empty places behind it, and its places are 19.
+
+abbrev pub Roomy : Answer → Type 0
+Roomy a = length (a .records .items) ≡ setRoom → a .records .count ≤ setRoom
+
+either : (b : Bool) (x y : Answer) → Roomy x → Roomy y → Roomy (cond b x y)
+either true x y p q = p
+either false x y p q = q
+
+of-list : (l : List Record) → length (recordsOf l .items) ≡ setRoom → recordsOf l .count ≤ setRoom
+unfolding recordsOf
+of-list l h = omega (arith, length-append l (replicate (setRoom - length l) noRecord))
+
+refused-room : (f : Refusal) → Roomy (refused f)
+unfolding refused
+refused-room f = of-list []
+
+accepted-room : (l : List Record) → Roomy (accepted l)
+unfolding accepted
+accepted-room l = of-list l
+
+table-room : (t : Table) (esr iss : ℕ) → Roomy (tableAnswer t esr iss)
+unfolding tableAnswer
+table-room t esr iss =
+    either (passed (failureFor t iss)) (accepted (recordsFor t esr iss)) (refused (failureFor t iss))
+    (accepted-room (recordsFor t esr iss)) (refused-room (failureFor t iss))
+
+class-room : (n esr : ℕ) → Roomy (classAnswer n esr)
+unfolding classAnswer
+class-room n esr =
+    either (eqb n empty) (refused (InvalidEc (fieldOf esr 26 6))) (tableAnswer (tableOf n) esr (fieldOf esr 0 25))
+    (refused-room (InvalidEc (fieldOf esr 26 6))) (table-room (tableOf n) esr (fieldOf esr 0 25))
+
+pub answer-room : (esr : ℕ) → Roomy (answerOf esr)
+unfolding answerOf
+answer-room esr =
+    either (passed (checkOf esr reserved)) (classAnswer (layoutNumber (fieldOf esr 26 6)) esr) (refused (checkOf esr reserved))
+    (class-room (layoutNumber (fieldOf esr 26 6)) esr) (refused-room (checkOf esr reserved))

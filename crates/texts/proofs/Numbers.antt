@@ -69,7 +69,7 @@ places-le rs zero = omega arith
 places-le [] (suc n) = omega arith
 places-le (r ∷ rs) (suc n) = omega (arith, places-le rs n)
 
-pub first-le : (rule : ℕ) → firstOf rule ≤ 483
+pub first-le : (rule : ℕ) → firstOf rule ≤ 499
 unfolding firstOf placesOf rules
 first-le rule = omega (arith, places-le rules rule)
 
@@ -95,7 +95,7 @@ unfolding bitsOf
 no-bits f h k zero = refl
 no-bits f h k (suc n) = ap₂ (λ (x : ℕ) (b : Bool). x * 2 + bit b) (no-bits f h (suc k) n) (h k)
 
-pub no-rule : (n : ℕ) → 45 ≤ n → (0, 483) ≡ numbersOf n
+pub no-rule : (n : ℕ) → 47 ≤ n → (0, 499) ≡ numbersOf n
 unfolding numbersOf says onList ruleAt firstOf placesOf rules
 no-rule n h =
     let none : ruleAt n ≡ plain = List·getD-eq-default rules plain h in

@@ -378,6 +378,26 @@ wnrNotValid =
     0 says "Not valid (see WnRV)" ∷
     [])
 
+-- The Rust's messages of refusals (lib.rs, DecodeError), by the refusal's number: what stands before the number that the refusal carries, and
+-- what stands behind it.
+abbrev pub message : Rule
+message =
+    rule 45 8 (
+    1 says "Invalid ESR, res0 is " ∷
+    2 says "Invalid EC " ∷
+    3 says "Invalid DFSC or IFSC " ∷
+    4 says "Invalid SET " ∷
+    5 says "Invalid AET " ∷
+    6 says "Invalid AM " ∷
+    7 says "Invalid ISS " ∷
+    [])
+
+abbrev pub messageEnd : Rule
+messageEnd =
+    rule 46 8 (
+    7 says " for trapped LD64B or ST64B*" ∷
+    [])
+
 unfoldable pub rules : List Rule
 rules =
     plain ∷ il ∷ cv ∷ rv ∷ mcrRead ∷ offsetSign ∷ ldcRead ∷ iOrD ∷
@@ -385,5 +405,5 @@ rules =
     stepValid ∷ ex ∷ watchWnR ∷ fnv ∷ pfv ∷ isv ∷ sf ∷ ar ∷
     fnp ∷ fnpNotValid ∷ wnr ∷ ids ∷ els ∷ vfv ∷ iesb ∷ wnrv ∷
     issRes0 ∷ className ∷ ti ∷ am ∷ ld64bIss ∷ debugStatus ∷ faultStatus ∷ setType ∷
-    sas ∷ wu ∷ aet ∷ serrorStatus ∷ wnrNotValid ∷
+    sas ∷ wu ∷ aet ∷ serrorStatus ∷ wnrNotValid ∷ message ∷ messageEnd ∷
     []

@@ -99,6 +99,8 @@ fn in_numbers(rule: u8) -> Saying
         rules::AET => Saying(0x4F, pool::AET_FIRST),
         rules::SERROR_STATUS => Saying(0x2_0001, pool::SERROR_STATUS_FIRST),
         rules::WNR_NOT_VALID => Saying(0x1, pool::WNR_NOT_VALID_FIRST),
+        rules::MESSAGE => Saying(0xFE, pool::MESSAGE_FIRST),
+        rules::MESSAGE_END => Saying(0x80, pool::MESSAGE_END_FIRST),
         _ => Saying(0, COUNT as u16),
     }
 }

@@ -1,11 +1,11 @@
 // The pool, where each text starts in it, and the first code of each rule of more than one bit. Written by tools/pool from the
 // strings of specs/Names.antt and specs/Rules.antt; the prover shows that it is their bytes.
 
-pub const LENGTH: usize = 7209;
-pub const COUNT: usize = 483;
-pub const PLACES: usize = 484;
+pub const LENGTH: usize = 7337;
+pub const COUNT: usize = 499;
+pub const PLACES: usize = 500;
 
-pub const POOL: [u8; 7209] = *b"\
+pub const POOL: [u8; 7337] = *b"\
     RES0\
     Reserved\
     ISS2\
@@ -294,9 +294,17 @@ pub const POOL: [u8; 7209] = *b"\
     Uncategorized error\
     Asynchronous SError interrupt\
     Not valid (see WnRV)\
+    Invalid ESR, res0 is \
+    Invalid EC \
+    Invalid DFSC or IFSC \
+    Invalid SET \
+    Invalid AET \
+    Invalid AM \
+    Invalid ISS \
+    \x20for trapped LD64B or ST64B*\
 ";
 
-pub const STARTS: [u16; 484] = [
+pub const STARTS: [u16; 500] = [
     0, 0, 4, 12, 16, 18, 33, 35, 53, 56, 85, 87, 107, 111, 152, 154,
     169, 171, 185, 187, 206, 210, 214, 217, 219, 222, 231, 267, 270, 274, 316, 318,
     376, 382, 423, 425, 440, 445, 463, 467, 494, 498, 512, 517, 545, 552, 596, 599,
@@ -327,7 +335,8 @@ pub const STARTS: [u16; 484] = [
     7160, 7160, 7160, 7160, 7189, 7189, 7189, 7189, 7189, 7189, 7189, 7189, 7189, 7189, 7189, 7189,
     7189, 7189, 7189, 7189, 7189, 7189, 7189, 7189, 7189, 7189, 7189, 7189, 7189, 7189, 7189, 7189,
     7189, 7189, 7189, 7189, 7189, 7189, 7189, 7189, 7189, 7189, 7189, 7189, 7189, 7189, 7189, 7189,
-    7189, 7189, 7189, 7209,
+    7189, 7189, 7189, 7209, 7209, 7230, 7241, 7262, 7274, 7286, 7297, 7309, 7309, 7309, 7309, 7309,
+    7309, 7309, 7309, 7337,
 ];
 
 // The rules of one bit have two codes each, from here on.
@@ -345,3 +354,5 @@ pub const WU_FIRST: u16 = 406;
 pub const AET_FIRST: u16 = 410;
 pub const SERROR_STATUS_FIRST: u16 = 418;
 pub const WNR_NOT_VALID_FIRST: u16 = 482;
+pub const MESSAGE_FIRST: u16 = 483;
+pub const MESSAGE_END_FIRST: u16 = 491;

@@ -44,3 +44,5 @@ pub const WU: u8 = 41;
 pub const AET: u8 = 42;
 pub const SERROR_STATUS: u8 = 43;
 pub const WNR_NOT_VALID: u8 = 44;
+pub const MESSAGE: u8 = 45;
+pub const MESSAGE_END: u8 = 46;

@@ -88,7 +88,15 @@ unfolding numbersOf bitsOf says onList ruleAt firstOf placesOf rules
 returns-15 c = arm 44 (c .before .before .before .args .rule) _ (omega arith) refl
 
 returns-16 : tie.Need-returns-16
-returns-16 c = no-rule (c .before .before .before .args .rule) (others-le 32 (c .before .before .before .args .rule) 13 (c .before .if2 .left) (c .match .rest))
+unfolding numbersOf bitsOf says onList ruleAt firstOf placesOf rules
+returns-16 c = arm 45 (c .before .before .before .args .rule) _ (omega arith) refl
+
+returns-17 : tie.Need-returns-17
+unfolding numbersOf bitsOf says onList ruleAt firstOf placesOf rules
+returns-17 c = arm 46 (c .before .before .before .args .rule) _ (omega arith) refl
+
+returns-18 : tie.Need-returns-18
+returns-18 c = no-rule (c .before .before .before .args .rule) (others-le 32 (c .before .before .before .args .rule) 15 (c .before .if2 .left) (c .match .rest))
 
 pub in-numbers-spec : {M : Type 1} → statement M
 in-numbers-spec =
@@ -113,4 +121,6 @@ in-numbers-spec =
     returns-13
     returns-14
     returns-15
-    returns-16)
+    returns-16
+    returns-17
+    returns-18)

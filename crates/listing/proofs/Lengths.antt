@@ -1,0 +1,54 @@
+-- The listing of a set grows by the lines of one record at each turn, and a front of it is no longer than the whole.
+use mathlib.Core.Path.{_≡_, refl, sym, ap, _∙_, subst}
+use mathlib.Core.List.{List, [], _∷_, _++_, append-nil, append-assoc, map}
+use Prim.Native.Nat.{ℕ, zero, suc, _+_, _-_, _≤_, _<_}
+use native.Mathlib.Nat.{not-suc-le-zero, le-of-suc-le-suc, add-zero, add-suc, suc-add, zero-add}
+use native.Mathlib.Numerals.{add-one}
+use native.Mathlib.Omega.{arith}
+use lib.ListN.{length, take, drop, getD, length-append, length-map}
+use Rattle.records.specs.declared.Record.{Record}
+use Rattle.listing.specs.Listings.{Phrase, recordLines, listingFrom}
+
+-- the length of an array of structs that is a field: the array's relation stands at a map over its list
+pub long-as : (X Y : Type 0) (f : X → Y) (l : List X) (n : ℕ) → length (map f l) ≡ n → length l ≡ n
+long-as X Y f l n p = sym (length-map l f) ∙ p
+
+module _ (lookup : ℕ → Phrase) where
+  -- one record more
+  more-from : (k : ℕ) (rs : List Record) (i : ℕ) (d : Record) → i < length rs
+      → listingFrom lookup k (take (suc i) rs) ≡ listingFrom lookup k (take i rs) ++ recordLines lookup (k + i) (getD rs i d)
+  unfolding listingFrom
+  more-from k [] i d h = absurd (not-suc-le-zero h)
+  more-from k (r ∷ rs) zero d h = append-nil (recordLines lookup k r) ∙ ap (λ (j : ℕ). recordLines lookup j r) (sym (add-zero k))
+  more-from k (r ∷ rs) (suc i) d h =
+      ap (λ (t : List ℕ). recordLines lookup k r ++ t) (more-from (suc k) rs i d (le-of-suc-le-suc h))
+      ∙ sym (append-assoc (recordLines lookup k r) (listingFrom lookup (suc k) (take i rs)) (recordLines lookup (suc k + i) (getD rs i d)))
+      ∙ ap (λ (j : ℕ). (recordLines lookup k r ++ listingFrom lookup (suc k) (take i rs)) ++ recordLines lookup j (getD rs i d)) (suc-add k i ∙ sym (add-suc k i))
+
+  pub one-more : (rs : List Record) (i : ℕ) (d : Record) → i < length rs
+      → listingFrom lookup 0 (take (i + 1) rs) ≡ listingFrom lookup 0 (take i rs) ++ recordLines lookup i (getD rs i d)
+  one-more rs i d h =
+      ap (λ (j : ℕ). listingFrom lookup 0 (take j rs)) (add-one i)
+      ∙ more-from 0 rs i d h
+      ∙ ap (λ (j : ℕ). listingFrom lookup 0 (take i rs) ++ recordLines lookup j (getD rs i d)) (zero-add i)
+
+  pub length-more : (rs : List Record) (i : ℕ) (d : Record) → i < length rs
+      → length (listingFrom lookup 0 (take (i + 1) rs)) ≡ length (listingFrom lookup 0 (take i rs)) + length (recordLines lookup i (getD rs i d))
+  length-more rs i d h = ap length (one-more rs i d h) ∙ length-append (listingFrom lookup 0 (take i rs)) (recordLines lookup i (getD rs i d))
+
+  -- a front of the listing is no longer than a longer front
+  front-from : (k : ℕ) (rs : List Record) (i n : ℕ) → i ≤ n → length (listingFrom lookup k (take i rs)) ≤ length (listingFrom lookup k (take n rs))
+  unfolding listingFrom
+  front-from k rs zero n h = omega arith
+  front-from k [] (suc i) n h = omega arith
+  front-from k (r ∷ rs) (suc i) zero h = absurd (not-suc-le-zero h)
+  front-from k (r ∷ rs) (suc i) (suc n) h =
+      let q = front-from (suc k) rs i n (le-of-suc-le-suc h) in
+      simp length-append (omega arith)
+
+  pub front : (rs : List Record) (i n : ℕ) → i ≤ n → length (listingFrom lookup 0 (take i rs)) ≤ length (listingFrom lookup 0 (take n rs))
+  front rs i n h = front-from 0 rs i n h
+
+  pub no-lines : listingFrom lookup 0 [] ≡ []
+  unfolding listingFrom
+  no-lines = refl
