@@ -6,10 +6,11 @@ use mathlib.Core.List.{List, [], _∷_, List·Memᴰ, List·Memᴰ·head, List·
 use mathlib.Core.Path.{_≡_, refl, sym, ap, _∙_, subst}
 use lib.Dec.{T, eqb, eqb→eq}
 use lib.ListN.{length}
+use borrow.Author.Tests.{le-leb}
 use lib.Text.{eqt, eqt→eq}
 use Rattle.promise.proofs.Tests.{both-left, both-right}
 use Rattle.texts.specs.Names.{names}
-use Rattle.texts.specs.Pool.{textIn, onList, ruleAt, says, byValue, said, placesOf, texts, textAt, placeIn, code, firstOf, textCode, bytes}
+use Rattle.texts.specs.Pool.{textIn, onList, ruleAt, says, byValue, said, placesOf, texts, textAt, bytesAt, placeIn, code, firstOf, textCode, bytes}
 use Rattle.texts.specs.Rules.{rules}
 use Rattle.records.specs.Bits.{fieldOf}
 use Rattle.records.specs.Refusals.{refusalNumber, refusalCarries, refusalBy}
@@ -24,10 +25,15 @@ use Rattle.layouts.specs.Tables.{layouts, tableOf, res0, wf, mcr, mcrr, ldc, sv
 use Rattle.esr.specs.Decode.{topRows, layoutNumber, firstFailure, refused, accepted as acceptedAnswer, failureFor, recordsFor, tableAnswer, classAnswer, answerOf}
 use Rattle.esr.specs.Promises.{Decoded}
 use Rattle.esr.specs.declared.Answer.{Answer}
+use Rattle.listing.specs.Asked.{listingWith, listingOf}
+use Rattle.listing.specs.Digits.{digitChar, digitsOf}
+use Rattle.listing.specs.Fields.{valueText, binaryText, behindValue, lineText}
+use Rattle.listing.specs.Listings.{inPool, indentAt, recordLines, listingFrom}
+use Rattle.listing.specs.Outcomes.{Outcome, text as inFull, answered, left}
 use Rattle.number.specs.Digits.{digitOf}
 use Rattle.number.specs.Numbers.{numberOf, numberIn, stepsOf, stepOf, startsWith}
 use Rattle.number.specs.declared.Number.{Number}
-use Rattle.marked.specs.Cases.{Fact, ofValue, withText, Expected, refusal, accepted, Case, cases, Says, Shown, AllShown, recordsIn, Met, Holds, AllHold, NumberHolds}
+use Rattle.marked.specs.Cases.{Fact, ofValue, withText, Expected, refusal, accepted, Case, cases, Says, Shown, AllShown, recordsIn, Met, Holds, AllHold, NumberHolds, listed, ended, ListingHolds}
 
 -- The test.
 
@@ -114,9 +120,22 @@ read : numberOf (bytes "0x+f") ≡ record { value = 15; refusal = None }
 unfolding bytes numberOf numberIn stepsOf stepOf startsWith digitOf
 read = refl
 
--- Each of 01's marked cases holds of every answer that the promises allow: the values', and the number's.
-pub marked : AllHold cases × NumberHolds
+in-full : listingOf 0x56000001 ≡ inFull (ended listed)
+unfolding listed ended listingWith listingFrom recordLines inPool indentAt lineText valueText binaryText behindValue digitsOf digitChar bytesAt bytes answerOf classAnswer tableAnswer failureFor recordsFor acceptedAnswer refused layoutNumber topRows firstFailure tableOf layouts res0 wf mcr mcrr ldc sve ld64b bti pauth hvc brk fp breakpoint softwareStep watchpoint instructionAbort dataAbort serror undivided passes rowsFor checksFor fieldOf recordOf checkOf refusalBy recordsOf textIn onList ruleAt says byValue said placesOf texts textAt placeIn code firstOf textCode names rules
+in-full = refl
+
+listing-holds : ListingHolds
+unfolding answered left
+listing-holds before after r room p =
+    let fits = le-leb (length (ended listed)) (length before) room in (
+      p .0 ∙ ap (λ (o : Outcome). answered o before) in-full ∙ rw fits,
+      p .1 ∙ ap (λ (o : Outcome). left o before) in-full ∙ rw fits,
+    )
+
+-- Each of 01's marked cases holds of every answer that the promises allow: the values', the number's, and the listing's to the byte.
+pub marked : AllHold cases × NumberHolds × ListingHolds
 marked = (
   all-hold cases computed,
-  λ r d. (ap (λ (n : Number). n .refusal) (d ∙ read), ap (λ (n : Number). n .value) (d ∙ read)),
+  (λ r d. (ap (λ (n : Number). n .refusal) (d ∙ read), ap (λ (n : Number). n .value) (d ∙ read))),
+  listing-holds,
 )

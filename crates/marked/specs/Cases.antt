@@ -1,15 +1,17 @@
 -- 01, "Marked cases, proved together as one table": what is asked of the answer to each value. Names and texts are strings.
-use Prim.Native.Nat.{ℕ}
+use Prim.Native.Nat.{ℕ, _≤_}
 use Prim.Native.String.{String}
-use mathlib.Core.List.{List, [], _∷_, List·Memᴰ}
+use mathlib.Core.List.{List, [], _∷_, _++_, List·Memᴰ}
 use mathlib.Core.Path.{_≡_}
-use lib.ListN.{take}
+use lib.ListN.{length, take, drop}
 use Rattle.texts.specs.Pool.{bytes, textAt}
 use Rattle.records.specs.Refusals.{refusalNumber, refusalCarries}
 use Rattle.records.specs.declared.Record.{Record}
 use Rattle.records.specs.declared.Refusal.the-variants.{None}
 use Rattle.esr.specs.Promises.{Decoded}
 use Rattle.esr.specs.declared.Answer.{Answer}
+use Rattle.listing.specs.Promises.{Listing}
+use Rattle.listing.specs.declared.Written.{Written}
 use Rattle.number.specs.Promises.{Parsed}
 use Rattle.number.specs.declared.Number.{Number}
 
@@ -84,3 +86,29 @@ AllHold (c ∷ cs) = Holds c × AllHold cs
 -- "0x+f": 15, of every answer that parse_number's promise allows
 abbrev pub NumberHolds : Type 0
 NumberHolds = (r : Number) → Parsed (bytes "0x+f") r → (r .refusal ≡ None) × (r .value ≡ 15)
+
+-- "Value 0x56000001 in full": its listing, line by line, each ended by one line feed
+unfoldable pub listed : List String
+listed =
+    "RES0: 0x0000000 0b000000000000000000000000000" ∷
+    "ISS2: 0x00 0b00000" ∷
+    "EC: 0x15 0b010101" ∷
+    "# SVC instruction execution in AArch64 state" ∷
+    "IL: true" ∷
+    "# 32-bit instruction trapped" ∷
+    "ISS: 0x0000001 0b0000000000000000000000001" ∷
+    "  RES0: 0x000 0b000000000" ∷
+    "  imm16: 0x0001 0b0000000000000001" ∷
+    []
+
+unfoldable pub ended : List String → List ℕ
+ended [] = []
+ended (line ∷ lines) = bytes line ++ (bytes "\n" ++ ended lines)
+
+-- in every buffer with room for it, by every answer that listing's promise allows, and behind it what stood there
+abbrev pub ListingHolds : Type 0
+ListingHolds =
+    (before after : List ℕ) (r : Written)
+    → length (ended listed) ≤ length before
+    → Listing (0x56000001, before) (r, after)
+    → (r ≡ record { refusal = None; bytes = length (ended listed) }) × (after ≡ ended listed ++ drop (length (ended listed)) before)
