@@ -1,0 +1,201 @@
+// Torn entries on their whole way, through read_entry and decode. Standard input has sound entries of every layout; each is torn in every
+// way below, and what is still accepted is counted. Erased flash reads 0xFF, so what was not written is all ones.
+use libc::STDOUT_FILENO;
+
+const SIZE: usize = 13;
+
+// Where the ESR's two words begin in an entry.
+const UPPER: usize = 5;
+
+const LOWER: usize = 9;
+
+// How many entries were tried, how many of them differ from the sound entry and how many of those are accepted; the ESR of the first
+// accepted one, before and after.
+struct Tally {
+    tried: u64,
+    changed: u64,
+    accepted: u64,
+    before: u64,
+    after: u64,
+}
+
+fn one_more(count: u64) -> u64 {
+    std::num::wrapping_add_u64(count, 1)
+}
+
+fn is_accepted(block: &[u8]) -> bool {
+    let entry = entry::read_entry(block);
+    let refusal = entry.refusal;
+    if refusal.number() != 0 {
+        return false;
+    }
+    let answer = esr::decode(entry.esr);
+    let refusal = answer.refusal;
+    refusal.number() == 0
+}
+
+fn is_same(a: &[u8], b: &[u8]) -> bool {
+    let mut i: usize = 0;
+    while i < a.len() {
+        if b.len() <= i {
+            return false;
+        }
+        if a[i] != b[i] {
+            return false;
+        }
+        i += 1;
+    }
+    true
+}
+
+// A copy of an entry whose bytes from one place to before another were not written.
+fn worn(block: &[u8], from: usize, to: usize) -> [u8; SIZE] {
+    let mut copy = [0xFFu8; SIZE];
+    let mut i: usize = 0;
+    while i < SIZE {
+        if i < block.len() {
+            if i < from {
+                copy[i] = block[i];
+            }
+            if to <= i {
+                copy[i] = block[i];
+            }
+        }
+        i += 1;
+    }
+    copy
+}
+
+impl Tally {
+    fn none() -> Self {
+        Self {
+            tried: 0,
+            changed: 0,
+            accepted: 0,
+            before: 0,
+            after: 0,
+        }
+    }
+
+    fn with(mut self, sound: &[u8], torn: &[u8]) -> Self {
+        self.tried = one_more(self.tried);
+        if is_same(sound, torn) {
+            return self;
+        }
+        self.changed = one_more(self.changed);
+        if is_accepted(torn) {
+            if self.accepted == 0 {
+                let before = entry::read_entry(sound);
+                let after = entry::read_entry(torn);
+                self.before = before.esr;
+                self.after = after.esr;
+            }
+            self.accepted = one_more(self.accepted);
+        }
+        self
+    }
+
+    // Each cut from a place on: what lies from there to before another was not written.
+    fn with_cuts(self, block: &[u8], from: usize, to: usize) -> Self {
+        let mut tally = self;
+        let mut start = from;
+        while start < to {
+            let torn = worn(block, start, to);
+            tally = tally.with(block, &torn);
+            start += 1;
+        }
+        tally
+    }
+
+    fn with_words(self, block: &[u8]) -> Self {
+        let upper = worn(block, UPPER, LOWER);
+        let lower = worn(block, LOWER, SIZE);
+        self.with(block, &upper).with(block, &lower)
+    }
+}
+
+fn say_count(name: &[u8], count: u64) {
+    io::write_all(STDOUT_FILENO, name);
+    io::print_decimal(STDOUT_FILENO, count);
+}
+
+// In which ways an entry is torn.
+enum Way {
+    EitherWord,
+    EntryPrefix,
+    UpperPrefix,
+}
+
+fn with_torn(tally: Tally, way: Way, block: &[u8]) -> Tally {
+    match way {
+        Way::EitherWord => return tally.with_words(block),
+        Way::EntryPrefix => return tally.with_cuts(block, 0, SIZE),
+        Way::UpperPrefix => return tally.with_cuts(block, UPPER + 1, LOWER),
+    }
+}
+
+fn torn(blocks: &[u8], way: Way) -> Tally {
+    let mut tally = Tally::none();
+    let mut at: usize = 0;
+    while at < blocks.len() {
+        if blocks.len() - at < SIZE {
+            return tally;
+        }
+        let end = at + SIZE;
+        tally = with_torn(tally, way, &blocks[at..end]);
+        at = end;
+    }
+    tally
+}
+
+fn count_sound(blocks: &[u8]) -> u64 {
+    let mut count: u64 = 0;
+    let mut at: usize = 0;
+    while at < blocks.len() {
+        if blocks.len() - at < SIZE {
+            return count;
+        }
+        let end = at + SIZE;
+        if is_accepted(&blocks[at..end]) {
+            count = one_more(count);
+        }
+        at = end;
+    }
+    count
+}
+
+fn say_tally(name: &[u8], tally: Tally) {
+    say_count(name, tally.tried);
+    say_count(b" changed ", tally.changed);
+    say_count(b" accepted ", tally.accepted);
+    io::write_all(STDOUT_FILENO, b"\n");
+    if tally.accepted == 0 {
+        return;
+    }
+    io::write_all(STDOUT_FILENO, b"first accepted 0x");
+    io::print_hex(STDOUT_FILENO, tally.before, 1);
+    io::write_all(STDOUT_FILENO, b" as 0x");
+    io::print_hex(STDOUT_FILENO, tally.after, 1);
+    io::write_all(STDOUT_FILENO, b"\n");
+}
+
+fn report(blocks: &[u8]) {
+    say_count(b"entries ", (blocks.len() / SIZE) as u64);
+    say_count(b" accepted ", count_sound(blocks));
+    io::write_all(STDOUT_FILENO, b"\n");
+    say_tally(b"either word all ones ", torn(blocks, Way::EitherWord));
+    say_tally(
+        b"a prefix of the entry written ",
+        torn(blocks, Way::EntryPrefix),
+    );
+    say_tally(
+        b"a prefix of the upper word written, the lower whole ",
+        torn(blocks, Way::UpperPrefix),
+    );
+}
+
+fn main() {
+    let mut room = io::large_buffer();
+    let n = io::read_full(0, &mut room);
+    report(&room[0..n]);
+}
