@@ -1,0 +1,64 @@
+// A fixed output buffer: texts and numbers are put behind each other, and what is held is written to standard output when room is short.
+ghost use Rattle.out.specs.Promises.{Flushed, Put, PutDecimal, PutHex, RoomFor};
+use libc::STDERR_FILENO;
+use libc::STDOUT_FILENO;
+
+// The place behind the text; where it does not fit, the buffer and the place stay as they are.
+pub fn put(buf: &mut [u8], at: usize, text: &[u8]) -> usize
+    ensures { λ r. ⌜ Put (now (buf .entry), at, now (text .entry)) (r, now (buf .exit)) ⌝ }
+{
+    if buf.len() < at {
+        return at;
+    }
+    if buf.len() - at < text.len() {
+        return at;
+    }
+    let mut i: usize = 0;
+    while i < text.len() {
+        buf[at + i] = text[i];
+        i += 1;
+    }
+    at + text.len()
+}
+
+pub fn put_hex(buf: &mut [u8], at: usize, number: u64) -> usize
+    ensures { λ r. ⌜ PutHex (now (buf .entry), at, number) (r, now (buf .exit)) ⌝ }
+{
+    let mut digits = [0u8; 16];
+    let count = io::hex(number, 1, &mut digits);
+    put(buf, at, &digits[..count])
+}
+
+pub fn put_decimal(buf: &mut [u8], at: usize, number: u64) -> usize
+    ensures { λ r. ⌜ PutDecimal (now (buf .entry), at, number) (r, now (buf .exit)) ⌝ }
+{
+    let mut digits = [0u8; 20];
+    let count = io::decimal(number, &mut digits);
+    put(buf, at, &digits[..count])
+}
+
+// What is held lies before a place. No contract can say what a write does, so a failure is told on standard error.
+pub fn flush(buf: &[u8], at: usize) -> usize
+    ensures { λ r. ⌜ Flushed (now (buf .entry), at) r ⌝ }
+{
+    if buf.len() < at {
+        return 0;
+    }
+    if !io::write_all(STDOUT_FILENO, &buf[0..at]) {
+        io::write_all(STDERR_FILENO, b"output could not be written\n");
+    }
+    0
+}
+
+// The place from which so many bytes fit: where they do not fit behind what is held, that is written and the place is 0.
+pub fn room_for(buf: &[u8], at: usize, count: usize) -> usize
+    ensures { λ r. ⌜ RoomFor (now (buf .entry), at, count) r ⌝ }
+{
+    if buf.len() < at {
+        return flush(buf, at);
+    }
+    if buf.len() - at < count {
+        return flush(buf, at);
+    }
+    at
+}
