@@ -52,3 +52,7 @@ unfolding partOf
 part-moves st at [] h = absurd (not-suc-le-zero h)
 part-moves st at (b ∷ r) h =
     either (λ (p : LinePart). at < p .next) (eqb b lineFeed) (omega arith) (omega (arith, part-goes-on (takenOf st b) (at + 1) r))
+
+-- so a loop that takes part after part ends
+pub part-moved : (st : LineState) (s : List ℕ) (at : ℕ) {r : LinePart} → r ≡ partOf st at (drop at s) → at < length s → at < r .next
+part-moved st s at e h = rw e (part-moves st at (drop at s) (omega (arith, length-drop at s)))
