@@ -32,17 +32,6 @@ struct Run {
     count: u64,
 }
 
-fn is_same(a: Line, b: Line) -> bool {
-    let mut i: usize = 0;
-    while i < WIDTH {
-        if a.bytes[i] != b.bytes[i] {
-            return false;
-        }
-        i += 1;
-    }
-    true
-}
-
 fn say_run(run: Run) {
     if run.count == 0 {
         return;
@@ -57,7 +46,9 @@ fn say_run(run: Run) {
 
 fn with_line(run: Run, line: Line) -> Run {
     let last = run.line;
-    if is_same(last, line) {
+    let before = last.bytes;
+    let now = line.bytes;
+    if check::same(&before, &now) {
         return Run {
             line,
             count: std::num::wrapping_add_u64(run.count, 1),

@@ -34,20 +34,6 @@ fn is_accepted(block: &[u8]) -> bool {
     refusal.number() == 0
 }
 
-fn is_same(a: &[u8], b: &[u8]) -> bool {
-    let mut i: usize = 0;
-    while i < a.len() {
-        if b.len() <= i {
-            return false;
-        }
-        if a[i] != b[i] {
-            return false;
-        }
-        i += 1;
-    }
-    true
-}
-
 // A copy of an entry whose bytes from one place to before another were not written.
 fn worn(block: &[u8], from: usize, to: usize) -> [u8; SIZE] {
     let mut copy = [0xFFu8; SIZE];
@@ -77,9 +63,17 @@ impl Tally {
         }
     }
 
+    fn with_whole(mut self, sound: &[u8]) -> Self {
+        self.tried = one_more(self.tried);
+        if is_accepted(sound) {
+            self.accepted = one_more(self.accepted);
+        }
+        self
+    }
+
     fn with(mut self, sound: &[u8], torn: &[u8]) -> Self {
         self.tried = one_more(self.tried);
-        if is_same(sound, torn) {
+        if check::same(sound, torn) {
             return self;
         }
         self.changed = one_more(self.changed);
@@ -119,8 +113,9 @@ fn say_count(name: &[u8], count: u64) {
     io::print_decimal(STDOUT_FILENO, count);
 }
 
-// In which ways an entry is torn.
+// What becomes of an entry: nothing, or the ways in which it is torn.
 enum Way {
+    Whole,
     EitherWord,
     EntryPrefix,
     UpperPrefix,
@@ -128,40 +123,25 @@ enum Way {
 
 fn with_torn(tally: Tally, way: Way, block: &[u8]) -> Tally {
     match way {
+        Way::Whole => return tally.with_whole(block),
         Way::EitherWord => return tally.with_words(block),
         Way::EntryPrefix => return tally.with_cuts(block, 0, SIZE),
         Way::UpperPrefix => return tally.with_cuts(block, UPPER + 1, LOWER),
     }
 }
 
-fn torn(blocks: &[u8], way: Way) -> Tally {
-    let mut tally = Tally::none();
+fn counts_of(blocks: &[u8], way: Way) -> Tally {
+    let mut counts = Tally::none();
     let mut at: usize = 0;
     while at < blocks.len() {
         if blocks.len() - at < SIZE {
-            return tally;
+            return counts;
         }
         let end = at + SIZE;
-        tally = with_torn(tally, way, &blocks[at..end]);
+        counts = with_torn(counts, way, &blocks[at..end]);
         at = end;
     }
-    tally
-}
-
-fn count_sound(blocks: &[u8]) -> u64 {
-    let mut count: u64 = 0;
-    let mut at: usize = 0;
-    while at < blocks.len() {
-        if blocks.len() - at < SIZE {
-            return count;
-        }
-        let end = at + SIZE;
-        if is_accepted(&blocks[at..end]) {
-            count = one_more(count);
-        }
-        at = end;
-    }
-    count
+    counts
 }
 
 fn say_tally(name: &[u8], tally: Tally) {
@@ -180,17 +160,18 @@ fn say_tally(name: &[u8], tally: Tally) {
 }
 
 fn report(blocks: &[u8]) {
-    say_count(b"entries ", (blocks.len() / SIZE) as u64);
-    say_count(b" accepted ", count_sound(blocks));
+    let whole = counts_of(blocks, Way::Whole);
+    say_count(b"entries ", whole.tried);
+    say_count(b" accepted ", whole.accepted);
     io::write_all(STDOUT_FILENO, b"\n");
-    say_tally(b"either word all ones ", torn(blocks, Way::EitherWord));
+    say_tally(b"either word all ones ", counts_of(blocks, Way::EitherWord));
     say_tally(
         b"a prefix of the entry written ",
-        torn(blocks, Way::EntryPrefix),
+        counts_of(blocks, Way::EntryPrefix),
     );
     say_tally(
         b"a prefix of the upper word written, the lower whole ",
-        torn(blocks, Way::UpperPrefix),
+        counts_of(blocks, Way::UpperPrefix),
     );
 }
 

@@ -2,14 +2,14 @@
 use Prim.Native.Nat.{_≤_, _-_}
 use lib.ListN.{length}
 use borrow.Author.Needs.{needs}
-use Rattle.torn.proofs.torn.Statement.{statement}
-use Rattle.torn.proofs.torn.Tie as tie
+use Rattle.torn.proofs.counts_of.Statement.{statement}
+use Rattle.torn.proofs.counts_of.Tie as tie
 
 abbrev Inv-loop : tie.InvT-loop
-Inv-loop blocks way tally₀ at₀ tally at = at ≤ length blocks
+Inv-loop blocks way counts₀ at₀ counts at = at ≤ length blocks
 
 abbrev μ-loop : tie.MeasureT-loop
-μ-loop blocks way tally₀ at₀ tally at = length blocks - at
+μ-loop blocks way counts₀ at₀ counts at = length blocks - at
 
 none-requires : tie.Need-none-requires Inv-loop μ-loop
 none-requires c κs = search needs
@@ -47,8 +47,8 @@ loop-again c = search needs
 returns-2 : tie.Need-returns-2 Inv-loop μ-loop
 returns-2 c = search needs
 
-pub torn-spec : {M : Type 1} → statement M
-torn-spec =
+pub counts-of-spec : {M : Type 1} → statement M
+counts-of-spec =
     tie.close
     (tie.spec
     Inv-loop
