@@ -5,4 +5,5 @@ pub mod Lent
 pub mod Lengths
 pub mod Answers
 pub mod Kept
+pub mod Theorems
 pub mod Decides

@@ -60,14 +60,14 @@ pub fn value_string(width: u64, value: u64, buf: &mut [u8]) -> Written
     if !fits(width, value) {
         return refuse(Refusal::BadField);
     }
-    let needed = value_length(width as u8, value);
-    if buf.len() < needed {
-        return short(needed);
+    let digits = value_length(width as u8, value);
+    if buf.len() < digits {
+        return short(digits);
     }
     put_value(buf, 0, width as u8, value);
     Written {
         refusal: Refusal::None,
-        bytes: needed,
+        bytes: digits,
     }
 }
 
@@ -77,14 +77,14 @@ pub fn value_binary_string(width: u64, value: u64, buf: &mut [u8]) -> Written
     if !fits(width, value) {
         return refuse(Refusal::BadField);
     }
-    let needed = binary_length(width as u8);
-    if buf.len() < needed {
-        return short(needed);
+    let bits = binary_length(width as u8);
+    if buf.len() < bits {
+        return short(bits);
     }
     put_binary(buf, 0, width as u8, value);
     Written {
         refusal: Refusal::None,
-        bytes: needed,
+        bytes: bits,
     }
 }
 
@@ -96,15 +96,15 @@ pub fn message(number: u64, carried: u64, buf: &mut [u8]) -> Written
         return refuse(Refusal::BadField);
     }
     let starts = texts::starting_places();
-    let needed = message_length(&starts, number, carried);
-    if buf.len() < needed {
-        return short(needed);
+    let words = message_length(&starts, number, carried);
+    if buf.len() < words {
+        return short(words);
     }
     let pool = texts::pool_bytes();
     put_message(buf, &pool, &starts, number, carried);
     Written {
         refusal: Refusal::None,
-        bytes: needed,
+        bytes: words,
     }
 }
 
@@ -123,15 +123,15 @@ pub fn record_line(esr: u64, index: usize, buf: &mut [u8]) -> Written
     }
     let item = answer.records.at(index);
     let starts = texts::starting_places();
-    let needed = line_length(&starts, item);
-    if buf.len() < needed {
-        return short(needed);
+    let line = line_length(&starts, item);
+    if buf.len() < line {
+        return short(line);
     }
     let pool = texts::pool_bytes();
     put_line(buf, 0, &pool, &starts, item);
     Written {
         refusal: Refusal::None,
-        bytes: needed,
+        bytes: line,
     }
 }
 
@@ -144,14 +144,14 @@ pub fn listing(esr: u64, buf: &mut [u8]) -> Written
         return refuse(refusal);
     }
     let starts = texts::starting_places();
-    let needed = all_length(&starts, answer.records);
-    if buf.len() < needed {
-        return short(needed);
+    let whole = all_length(&starts, answer.records);
+    if buf.len() < whole {
+        return short(whole);
     }
     let pool = texts::pool_bytes();
     put_all(buf, &pool, &starts, answer.records);
     Written {
         refusal: Refusal::None,
-        bytes: needed,
+        bytes: whole,
     }
 }

@@ -134,10 +134,10 @@ pub(crate) fn put_all(buf: &mut [u8], pool: &[u8], starts: &[u16], records: Reco
     requires { ⌜ Lent (now pool) (now starts) × (records .count ≤ 19) × (length (listingFrom inPool 0 (take (records .count) (records .items))) ≤ length (now buf)) ⌝ }
     ensures { λ r. ⌜ Wrote (now (buf .entry)) 0 (listingFrom inPool 0 (take (records .count) (records .items))) r (now (buf .exit)) ⌝ }
 {
-    let n = records.count;
+    let count = records.count;
     let mut at = 0;
     let mut i = 0;
-    while i < n {
+    while i < count {
         let item = records.items[i];
         at = put_record(buf, at, pool, starts, i, item);
         i += 1;
