@@ -1,4 +1,4 @@
-// What document 01 decides of abort.rs, in 01's words: the abort statuses and the external ones among them, and the house texts. `build`
+// What document 01 decides of abort.rs, in 01's words: the abort statuses and the external ones among them, and the house texts. `build.py`
 // puts each function in the place of the one of its name.
 
 fn is_external_abort_fsc(status: u64) -> bool {

@@ -1,9 +1,10 @@
 #!/usr/bin/env python3
-"""Builds the oracle, the Rust decoder (google/aarch64-esr-decoder, commit 40a497fccc) as a program that answers lines of standard input.
+"""Builds the Rust that ours is compared with (google/aarch64-esr-decoder, commit 40a497fccc).
 
-    compare/oracle/build [SOURCES]     SOURCES has the decoder's src/; by default ../shared/docs/src beside the repository
+    compare/build.py oracle [SOURCES]     SOURCES has the decoder's src/; by default ../shared/docs/src beside the repository
+    compare/build.py sides [SOURCES]      also the programs of sides/, which call the decoder and our archive (`rt staticlib door`)
 
-Two kinds, written to target/compare/bin/:
+The oracle answers lines of standard input (oracle/main.rs). There are two, in target/compare/bin/:
   by-01         the sources, and of abort.rs what document 01 decides (filled.rs); class 0x18 is accepted undivided (msr.rs)
   as-published  the sources as they are; of filled.rs and msr.rs only what the sources do not have
 In both, `midr` and `smccc` are left out, `bit_field` is a stand-in (bit_field.rs) and `thiserror` is Debian's package. The compiler is the
@@ -11,6 +12,7 @@ machine's own, from 1.73 on, or else Debian's rustc-web. Nothing is fetched but 
 The copies lie in target/compare/by-01 and target/compare/as-published, each a package with the library `decoder`."""
 import hashlib
 import os
+import platform
 import re
 import shutil
 import subprocess
@@ -18,12 +20,16 @@ import sys
 from pathlib import Path
 
 HERE = Path(__file__).resolve().parent
-TOP = HERE.parent.parent
+ORACLE = HERE / "oracle"
+TOP = HERE.parent
 OUT = TOP / "target" / "compare"
+BIN = OUT / "bin"
 DEFAULT = TOP.parent / "shared" / "docs" / "src"
+ARCHIVES = TOP / "target" / "staticlib"
 REGISTRY = Path("/usr/share/cargo/registry")
 OLDEST = (1, 73)
-PROGRAM = "oracle"
+KINDS = ("by-01", "as-published")
+SIDES = ("every", "bench")
 
 # A function of a file as the formatter lays it out, with the comment above it.
 ITEM = r"(?:^///[^\n]*\n)*^(?:pub\(super\) )?fn ({name})\(.*?^}}\n"
@@ -35,11 +41,7 @@ MANIFEST = """[package]
 name = "{name}"
 version = "0.0.0"
 edition = "2021"
-
-[lib]
-name = "{library}"
-path = "src/lib.rs"
-{program}
+{targets}
 [dependencies]
 {dependencies}
 [lints.rust]
@@ -47,15 +49,23 @@ dead_code = "deny"
 
 [workspace]
 """
+LIBRARY = '\n[lib]\nname = "{name}"\npath = "src/lib.rs"\n'
+LINKED = """fn main() {{
+    println!("cargo:rustc-link-search=native={folder}");
+    println!("cargo:rustc-link-lib=static=door");
+    println!("cargo:rerun-if-changed={archive}");
+}}
+"""
+PROGRAM = '\n[[bin]]\nname = "{name}"\npath = "{path}"\n'
 
 
 def fail(message):
-    print(f"oracle: {message}", file=sys.stderr)
+    print(f"compare: {message}", file=sys.stderr)
     sys.exit(1)
 
 
 def install(*packages):
-    print(f"oracle: installing {' '.join(packages)}")
+    print(f"compare: installing {' '.join(packages)}")
     quiet = dict(stdout=subprocess.DEVNULL, env=os.environ | {"DEBIAN_FRONTEND": "noninteractive"})
     for command in (["update", "-qq"], ["install", "-y", "-qq", "--no-install-recommends", "--no-remove", *packages]):
         if subprocess.run(["apt-get", *command], **quiet).returncode:
@@ -92,7 +102,7 @@ def write(path, text):
 
 def filled(abort, by_01):
     """abort.rs with what document 01 decides in place of its own, or where it has none."""
-    for ours in re.finditer(ITEM.format(name=r"\w+"), (HERE / "filled.rs").read_text(), re.M | re.S):
+    for ours in re.finditer(ITEM.format(name=r"\w+"), (ORACLE / "filled.rs").read_text(), re.M | re.S):
         theirs = re.search(ITEM.format(name=ours[1]), abort, re.M | re.S)
         if theirs and by_01:
             abort = abort.replace(theirs[0], ours[0])
@@ -108,7 +118,7 @@ def copied(sources, by_01):
     files |= {Path("src") / name: text for name, text in LEFT_OUT.items()}
     msr, abort = Path("src/esr/msr.rs"), Path("src/esr/abort.rs")
     if by_01 or msr not in files:
-        files[msr] = (HERE / "msr.rs").read_text()
+        files[msr] = (ORACLE / "msr.rs").read_text()
     files[abort] = filled(files[abort], by_01)
     return files
 
@@ -128,39 +138,72 @@ def make(kind, sources):
         left.unlink()
     for path, text in files.items():
         write(room / path, text)
-    program = f'\n[[bin]]\nname = "{PROGRAM}"\npath = "{HERE / "main.rs"}"\n'
+    targets = LIBRARY.format(name="decoder") + PROGRAM.format(name="oracle", path=ORACLE / "main.rs")
     needs = f'bit_field = {{ path = "{OUT / "bit_field"}" }}\nthiserror = "1"\n'
-    write(room / "Cargo.toml", MANIFEST.format(name=kind, library="decoder", program=program, dependencies=needs))
+    write(room / "Cargo.toml", MANIFEST.format(name=kind, targets=targets, dependencies=needs))
     return sum_of(files)
 
 
-def cargo(folder, room, *words):
+def cargo(folder, room):
     """Builds a package with the folder's cargo, offline, over Debian's sources; all packages share what they need."""
-    own = {"CARGO_HOME": OUT / "cargo", "CARGO_TARGET_DIR": OUT / "build", "RUSTC": folder / "rustc", "CARGO_NET_OFFLINE": "true"}
-    built = subprocess.run([folder / "cargo", "build", "--release", "--quiet", *words], cwd=room, env=os.environ | {k: str(v) for k, v in own.items()})
-    if built.returncode:
+    own = {"CARGO_HOME": OUT / "cargo", "CARGO_TARGET_DIR": OUT / "build", "RUSTC": folder / "rustc"}
+    environment = os.environ | {name: str(value) for name, value in own.items()}
+    if subprocess.run([folder / "cargo", "build", "--release", "--quiet", "--offline"], cwd=room, env=environment).returncode:
         fail(f"cargo build failed in {room.relative_to(TOP)}")
 
 
-def main():
-    if len(sys.argv) > 2 or sys.argv[1:2] in (["-h"], ["--help"]):
-        print(__doc__)
-        sys.exit(2)
-    sources = Path(sys.argv[1]).resolve() if sys.argv[1:] else DEFAULT
+def keep(built, name):
+    BIN.mkdir(parents=True, exist_ok=True)
+    shutil.copy2(OUT / "build" / "release" / built, BIN / name)
+
+
+def oracle(sources=None):
+    """Builds both oracles; answers the folder of the compiler and the hash of the sources of each kind."""
+    sources = Path(sources or DEFAULT).resolve()
     if not (sources / "src" / "lib.rs").is_file():
         fail(f"no src/lib.rs in {sources}")
     folder = compiler()
     if not any(REGISTRY.glob("thiserror-1*")):
         install("librust-thiserror-dev")
     write(OUT / ".cargo" / "config.toml", f'[source.crates-io]\nreplace-with = "debian"\n[source.debian]\ndirectory = "{REGISTRY}"\n')
-    write(OUT / "bit_field" / "src" / "lib.rs", (HERE / "bit_field.rs").read_text())
-    write(OUT / "bit_field" / "Cargo.toml", MANIFEST.format(name="bit_field", library="bit_field", program="", dependencies=""))
-    (OUT / "bin").mkdir(exist_ok=True)
-    for kind in ("by-01", "as-published"):
-        digest = make(kind, sources)
+    write(OUT / "bit_field" / "src" / "lib.rs", (ORACLE / "bit_field.rs").read_text())
+    write(OUT / "bit_field" / "Cargo.toml", MANIFEST.format(name="bit_field", targets=LIBRARY.format(name="bit_field"), dependencies=""))
+    hashes = {}
+    for kind in KINDS:
+        hashes[kind] = make(kind, sources)
         cargo(folder, OUT / kind)
-        shutil.copy2(OUT / "build" / "release" / PROGRAM, OUT / "bin" / kind)
-        print(f"oracle: {kind} built by rustc {'.'.join(map(str, version_of(folder / 'rustc')))} from sources of sha256 {digest}")
+        keep("oracle", kind)
+        version = ".".join(map(str, version_of(folder / "rustc")))
+        print(f"compare: the Rust {kind}, sources of sha256 {hashes[kind]}, built by rustc {version}", flush=True)
+    return folder, hashes
+
+
+def sides(sources=None):
+    """Builds the oracle, our archive and the programs over both; answers the hashes of all three."""
+    if platform.machine() != "x86_64":
+        fail("our archive is for x86-64, and building the Rust for it on another processor has not been tried")
+    folder, hashes = oracle(sources)
+    if subprocess.run(["rt", "staticlib", "door"], cwd=TOP, stdout=subprocess.DEVNULL).returncode:
+        fail("rt staticlib door failed")
+    archive = ARCHIVES / "libdoor.a"
+    room = OUT / "sides"
+    targets = "".join(PROGRAM.format(name=name, path=HERE / "sides" / f"{name}.rs") for name in SIDES)
+    needs = f'decoder = {{ package = "by-01", path = "{OUT / "by-01"}" }}\n'
+    write(room / "Cargo.toml", MANIFEST.format(name="sides", targets=targets, dependencies=needs))
+    write(room / "build.rs", LINKED.format(folder=ARCHIVES, archive=archive))
+    cargo(folder, room)
+    for name in SIDES:
+        keep(name, name)
+    programs = hashlib.sha256(b"".join(path.read_bytes() for path in sorted((HERE / "sides").glob("*.rs")))).hexdigest()
+    return {"rust": hashes["by-01"], "archive": hashlib.sha256(archive.read_bytes()).hexdigest(), "programs": programs}
+
+
+def main():
+    made = {"oracle": oracle, "sides": sides}.get(sys.argv[1] if sys.argv[1:] else None)
+    if not made or len(sys.argv) > 3:
+        print(__doc__)
+        sys.exit(2)
+    made(*sys.argv[2:])
 
 
 if __name__ == "__main__":
