@@ -2,7 +2,7 @@
 """Builds the Rust that ours is compared with (google/aarch64-esr-decoder, commit 40a497fccc).
 
     compare/build.py oracle [SOURCES]     SOURCES has the decoder's src/; by default ../shared/docs/src beside the repository
-    compare/build.py sides [SOURCES]      also the programs of sides/, which call the decoder and our archive (`rt staticlib door`)
+    compare/build.py every|bench [SOURCES]     also that program of sides/, which calls the decoder and our archive (`rt staticlib door`)
 
 The oracle answers lines of standard input (oracle/main.rs). There are two, in target/compare/bin/:
   by-01         the sources, and of abort.rs what document 01 decides (filled.rs); class 0x18 is accepted undivided (msr.rs)
@@ -144,11 +144,12 @@ def make(kind, sources):
     return sum_of(files)
 
 
-def cargo(folder, room):
-    """Builds a package with the folder's cargo, offline, over Debian's sources; all packages share what they need."""
+def cargo(folder, room, program):
+    """Builds a program of a package with the folder's cargo, offline, over Debian's sources; all packages share what they need."""
     own = {"CARGO_HOME": OUT / "cargo", "CARGO_TARGET_DIR": OUT / "build", "RUSTC": folder / "rustc"}
     environment = os.environ | {name: str(value) for name, value in own.items()}
-    if subprocess.run([folder / "cargo", "build", "--release", "--quiet", "--offline"], cwd=room, env=environment).returncode:
+    command = [folder / "cargo", "build", "--release", "--quiet", "--offline", "--bin", program]
+    if subprocess.run(command, cwd=room, env=environment).returncode:
         fail(f"cargo build failed in {room.relative_to(TOP)}")
 
 
@@ -171,15 +172,15 @@ def oracle(sources=None):
     hashes = {}
     for kind in KINDS:
         hashes[kind] = make(kind, sources)
-        cargo(folder, OUT / kind)
+        cargo(folder, OUT / kind, "oracle")
         keep("oracle", kind)
         version = ".".join(map(str, version_of(folder / "rustc")))
         print(f"compare: the Rust {kind}, sources of sha256 {hashes[kind]}, built by rustc {version}", flush=True)
     return folder, hashes
 
 
-def sides(sources=None):
-    """Builds the oracle, our archive and the programs over both; answers the hashes of all three."""
+def sides(program, sources=None):
+    """Builds the oracle, our archive and a program over both; answers the hashes of all three."""
     if platform.machine() != "x86_64":
         fail("our archive is for x86-64, and building the Rust for it on another processor has not been tried")
     folder, hashes = oracle(sources)
@@ -191,19 +192,21 @@ def sides(sources=None):
     needs = f'decoder = {{ package = "by-01", path = "{OUT / "by-01"}" }}\n'
     write(room / "Cargo.toml", MANIFEST.format(name="sides", targets=targets, dependencies=needs))
     write(room / "build.rs", LINKED.format(folder=ARCHIVES, archive=archive))
-    cargo(folder, room)
-    for name in SIDES:
-        keep(name, name)
+    cargo(folder, room, program)
+    keep(program, program)
     programs = hashlib.sha256(b"".join(path.read_bytes() for path in sorted((HERE / "sides").glob("*.rs")))).hexdigest()
     return {"rust": hashes["by-01"], "archive": hashlib.sha256(archive.read_bytes()).hexdigest(), "programs": programs}
 
 
 def main():
-    made = {"oracle": oracle, "sides": sides}.get(sys.argv[1] if sys.argv[1:] else None)
-    if not made or len(sys.argv) > 3:
+    what, *sources = sys.argv[1:] or [None]
+    if what == "oracle" and len(sources) < 2:
+        oracle(*sources)
+    elif what in SIDES and len(sources) < 2:
+        sides(what, *sources)
+    else:
         print(__doc__)
         sys.exit(2)
-    made(*sys.argv[2:])
 
 
 if __name__ == "__main__":

@@ -32,7 +32,6 @@ pub struct Number {
 extern "C" {
     fn esr_decode(esr: u64, places: *mut Record, length: usize) -> Filled;
     fn esr_text(code: u16, buffer: *mut u8, length: usize) -> Filled;
-    fn esr_message(number: u64, carried: u64, buffer: *mut u8, length: usize) -> Filled;
     fn esr_listing(esr: u64, buffer: *mut u8, length: usize) -> Filled;
     fn esr_parse_number(string: *const u8, length: usize) -> Number;
 }
@@ -45,10 +44,6 @@ pub fn decode(esr: u64, places: &mut [Record]) -> Filled {
 
 pub fn text(code: u16, buffer: &mut [u8]) -> Filled {
     unsafe { esr_text(code, buffer.as_mut_ptr(), buffer.len()) }
-}
-
-pub fn message(number: u8, carried: u64, buffer: &mut [u8]) -> Filled {
-    unsafe { esr_message(number.into(), carried, buffer.as_mut_ptr(), buffer.len()) }
 }
 
 pub fn listing(esr: u64, buffer: &mut [u8]) -> Filled {

@@ -2,7 +2,7 @@
 //!
 //!     every rust|ours           a line `START COUNT` of standard input: the digest of the answers to START, START + 1 .., and how many
 //!                               of them are accepted
-//!     every rust|ours show      a value to a line: its canonical block
+//!     every rust|ours show      a value to a line: its canonical block (ours without the refusal's message)
 //!
 //! The two sides share how numbers are mixed. What an answer consists of is said twice: of the Rust's tree of fields, whose strings are
 //! hashed anew each time, and of our flat records, whose codes are looked up in digests of what the archive gives for them.
@@ -102,10 +102,7 @@ impl Side for Ours {
         let answer = door::decode(esr, &mut places);
         writeln!(out, "> {esr:#x}")?;
         if answer.refusal != 0 {
-            let mut buffer = [0; 256];
-            let length = door::message(answer.refusal, answer.carried, &mut buffer).count;
-            let message = String::from_utf8_lossy(&buffer[..length]);
-            return writeln!(out, "refused {} carried={:#x} {message}", answer.refusal, answer.carried);
+            return writeln!(out, "refused {} carried={:#x}", answer.refusal, answer.carried);
         }
         for (at, place) in places[..answer.count].iter().enumerate() {
             let [name, long, text] = [place.name, place.long, place.text]
@@ -144,7 +141,7 @@ fn serve(side: &impl Side, showing: bool) -> io::Result<()> {
 
 fn main() -> io::Result<()> {
     let words: Vec<String> = std::env::args().skip(1).collect();
-    match words.iter().map(String::as_str).collect::<Vec<_>>()[..] {
+    let served = match words.iter().map(String::as_str).collect::<Vec<_>>()[..] {
         ["rust"] => serve(&Rust, false),
         ["rust", "show"] => serve(&Rust, true),
         ["ours"] => serve(&Ours::new(), false),
@@ -153,5 +150,7 @@ fn main() -> io::Result<()> {
             eprintln!("usage: every rust|ours [show]");
             std::process::exit(2);
         }
-    }
+    };
+    // whoever asked has stopped listening
+    served.or_else(|error| if error.kind() == io::ErrorKind::BrokenPipe { Ok(()) } else { Err(error) })
 }
