@@ -2,7 +2,8 @@
 """Builds the Rust that ours is compared with (google/aarch64-esr-decoder, commit 40a497fccc).
 
     compare/build.py oracle [SOURCES]     SOURCES has the decoder's src/; by default ../shared/docs/src beside the repository
-    compare/build.py every|bench [SOURCES]     also that program of sides/, which calls the decoder and our archive (`rt staticlib door`)
+    compare/build.py every|bench [SOURCES]     also that program of sides/, over the decoder and our archive (`rt staticlib door`)
+    compare/build.py differences [SOURCES]     also that program of sides/, over the decoder in both kinds
 
 The oracle answers lines of standard input (oracle/main.rs). There are two, in target/compare/bin/:
   by-01         the sources, and of abort.rs what document 01 decides (filled.rs); class 0x18 is accepted undivided (msr.rs)
@@ -179,7 +180,17 @@ def oracle(sources=None):
     return folder, hashes
 
 
-def sides(program, sources=None):
+def program(name, folder, needs):
+    """Builds a program of sides/ over the packages that it needs."""
+    room = OUT / name
+    dependencies = "".join(f'{word} = {{ package = "{kind}", path = "{OUT / kind}" }}\n' for word, kind in needs.items())
+    targets = PROGRAM.format(name=name, path=HERE / "sides" / f"{name}.rs")
+    write(room / "Cargo.toml", MANIFEST.format(name=f"{name}-program", targets=targets, dependencies=dependencies))
+    cargo(folder, room, name)
+    keep(name, name)
+
+
+def sides(name, sources=None):
     """Builds the oracle, our archive and a program over both; answers the hashes of all three."""
     if platform.machine() != "x86_64":
         fail("our archive is for x86-64, and building the Rust for it on another processor has not been tried")
@@ -187,15 +198,16 @@ def sides(program, sources=None):
     if subprocess.run(["rt", "staticlib", "door"], cwd=TOP, stdout=subprocess.DEVNULL).returncode:
         fail("rt staticlib door failed")
     archive = ARCHIVES / "libdoor.a"
-    room = OUT / "sides"
-    targets = "".join(PROGRAM.format(name=name, path=HERE / "sides" / f"{name}.rs") for name in SIDES)
-    needs = f'decoder = {{ package = "by-01", path = "{OUT / "by-01"}" }}\n'
-    write(room / "Cargo.toml", MANIFEST.format(name="sides", targets=targets, dependencies=needs))
-    write(room / "build.rs", LINKED.format(folder=ARCHIVES, archive=archive))
-    cargo(folder, room, program)
-    keep(program, program)
+    write(OUT / name / "build.rs", LINKED.format(folder=ARCHIVES, archive=archive))
+    program(name, folder, {"decoder": "by-01"})
     programs = hashlib.sha256(b"".join(path.read_bytes() for path in sorted((HERE / "sides").glob("*.rs")))).hexdigest()
     return {"rust": hashes["by-01"], "archive": hashlib.sha256(archive.read_bytes()).hexdigest(), "programs": programs}
+
+
+def differences(sources=None):
+    """Builds the program over the decoder in both kinds."""
+    folder, _ = oracle(sources)
+    program("differences", folder, {"decoder": "by-01", "published": "as-published"})
 
 
 def main():
@@ -204,6 +216,8 @@ def main():
         oracle(*sources)
     elif what in SIDES and len(sources) < 2:
         sides(what, *sources)
+    elif what == "differences" and len(sources) < 2:
+        differences(*sources)
     else:
         print(__doc__)
         sys.exit(2)
