@@ -1,13 +1,13 @@
 -- The sum of the leaves in the steps of the code: one field more, and the two stretches of leaves as one, modulo 2^64.
 use mathlib.Core.Path.{_≡_, refl, sym, ap, ap₂, _∙_}
 use mathlib.Core.Bool.{Bool, true, false, cond, _&&_}
-use mathlib.Core.List.{List, [], _∷_, _++_, map}
+use mathlib.Core.List.{List, [], _∷_, _++_}
 use Prim.Native.Nat.{ℕ, suc, _+_, _*_, _%_, _^_, _≤_, _<_}
 use native.Mathlib.Nat.{add-assoc, add-zero, zero-add, mod-eq-of-lt, add-mod-mod, mod-add-mod}
 use native.Mathlib.Numerals.{add-one}
 use native.Mathlib.Omega.{arith}
 use lib.Dec.{leb, ltb}
-use lib.ListN.{length, getD, take, drop, take-append-drop, length-map}
+use lib.ListN.{length, getD, take, drop, take-append-drop}
 use lib.Seq.{drop-cons, getD-take, length-take-le, drop-length, take-all, take-take}
 use borrow.Author.Tests.{le-leb, lt-leb, lt-ltb, le-ltb, ltb-true, ltb-false}
 use Rattle.records.specs.Sets.{setRoom, noRecord}
@@ -15,10 +15,6 @@ use Rattle.records.specs.declared.Record.{Record}
 use Rattle.records.specs.declared.Records.{Records}
 use Rattle.reading.specs.Leaves.{leavesIn, leaves, shiftedBack, addedUp}
 use Rattle.reading.specs.Promises.{SumBack}
-
--- an array of structs is as long as what it holds
-pub long-as : (X Y : Type 0) (f : X → Y) (l : List X) (n : ℕ) → length (map f l) ≡ n → length l ≡ n
-long-as X Y f l n e = sym (length-map l f) ∙ e
 
 -- One field.
 

@@ -1,13 +1,13 @@
 -- Laws of the vocabulary, which the crates above cite: fields and their bounds, refusals by number, sets as lists.
 use mathlib.Core.Path.{_≡_, refl, sym, ap, ap₂, _∙_, subst}
 use mathlib.Core.Bool.{Bool, true, false, cond}
-use mathlib.Core.List.{List, [], _∷_, _++_, append-assoc, append-nil}
+use mathlib.Core.List.{List, [], _∷_, _++_, map, append-assoc, append-nil}
 use Prim.Native.Nat.{ℕ, zero, suc, _+_, _-_, _*_, _/_, _%_, _^_, _≤_, _<_}
 use native.Mathlib.Nat.{one-mul, mod-lt, mod-eq-of-lt, zero-mod, div-eq-of-lt, zero-add, lt-of-lt-of-le, lt-of-le-of-lt, le-of-suc-le-suc, not-suc-le-zero}
 use native.Mathlib.Omega.{arith}
 use lib.Bits.{bitAnd, and-mask}
 use lib.Dec.{T, eqb, ltb, eqb→eq}
-use lib.ListN.{length, getD, take, replicate, set, length-append, length-replicate, List·getD-append}
+use lib.ListN.{length, getD, take, replicate, set, length-append, length-map, length-replicate, List·getD-append}
 use lib.Pow.{pow-pos, pow-mono, pow-lt, shr-le}
 use lib.Seq.{set-append-seam, take-append-seam}
 use borrow.Author.Tests.{lt-ltb}
@@ -147,3 +147,7 @@ list-of l = take-append-seam l (replicate (setRoom - length l) noRecord)
 -- equal sets hold equal lists
 pub same-list : (l m : List Record) → recordsOf l ≡ recordsOf m → l ≡ m
 same-list l m e = sym (list-of l) ∙ ap listOf e ∙ list-of m
+
+-- the length of an array of structs that is a field: the array's relation stands at a map over its list
+pub long-as : (X Y : Type 0) (f : X → Y) (l : List X) (n : ℕ) → length (map f l) ≡ n → length l ≡ n
+long-as X Y f l n p = sym (length-map l f) ∙ p

@@ -3,7 +3,7 @@ use borrow.Author.Needs.{needs}
 use native.Mathlib.Omega.{arith}
 use mathlib.Core.Path.{_≡_, refl, sym, ap, _∙_}
 use lib.ListN.{length}
-use Rattle.listing.proofs.Lengths.{long-as}
+use Rattle.records.proofs.Laws.{long-as}
 use Rattle.listing.proofs.Answers.{line-refused, line-no, line-yes}
 use Rattle.listing.specs.Steps.{Lent}
 use Rattle.listing.specs.Fields.{lineText}

@@ -4,7 +4,8 @@ use mathlib.Core.Path.{_≡_}
 use native.Mathlib.Omega.{arith}
 use lib.ListN.{length}
 use Rattle.records.specs.declared.Record.{Record}
-use Rattle.reading.proofs.Sums.{long-as, within, few-sum, many-sum}
+use Rattle.records.proofs.Laws.{long-as}
+use Rattle.reading.proofs.Sums.{within, few-sum, many-sum}
 use borrow.Author.Needs.{needs}
 use Rattle.reading.proofs.sum_back.Statement.{statement}
 use Rattle.reading.proofs.sum_back.Tie as tie

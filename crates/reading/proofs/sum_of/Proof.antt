@@ -9,7 +9,8 @@ use borrow.Author.Needs.{needs}
 use lib.Pow.{pow-pos}
 use Rattle.records.specs.declared.Record.{Record}
 use Rattle.reading.specs.Leaves.{addedUp}
-use Rattle.reading.proofs.Sums.{long-as, sum-more, sum-done}
+use Rattle.records.proofs.Laws.{long-as}
+use Rattle.reading.proofs.Sums.{sum-more, sum-done}
 use Rattle.reading.proofs.sum_of.Statement.{statement}
 use Rattle.reading.proofs.sum_of.Tie as tie
 

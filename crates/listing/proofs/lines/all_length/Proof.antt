@@ -5,7 +5,8 @@ use lib.ListN.{length, take}
 use native.Mathlib.Omega.{arith}
 use Rattle.records.specs.Sets.{noRecord}
 use Rattle.listing.specs.Listings.{inPool, listingFrom}
-use Rattle.listing.proofs.Lengths.{long-as, length-more, no-lines}
+use Rattle.records.proofs.Laws.{long-as}
+use Rattle.listing.proofs.Lengths.{length-more, no-lines}
 use borrow.Author.Needs.{needs}
 use Rattle.listing.proofs.lines.all_length.Statement.{statement}
 use Rattle.listing.proofs.lines.all_length.Tie as tie

@@ -4,7 +4,8 @@ use native.Mathlib.Omega.{arith}
 use mathlib.Core.Path.{_≡_, refl, sym, ap, subst}
 use Prim.Native.Nat.{ℕ, _+_, _-_, _≤_, _<_}
 use lib.ListN.{length, take}
-use Rattle.listing.proofs.Lengths.{long-as, one-more, length-more, front, no-lines}
+use Rattle.records.proofs.Laws.{long-as}
+use Rattle.listing.proofs.Lengths.{one-more, length-more, front, no-lines}
 use Rattle.listing.proofs.Writing.{wrote-none, and-then, wrote-length}
 use Rattle.listing.specs.Steps.{Wrote}
 use Rattle.listing.specs.Listings.{inPool, listingFrom}
