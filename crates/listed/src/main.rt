@@ -11,7 +11,7 @@ use number::Number;
 use records::Records;
 use records::Refusal;
 
-// Longer than any listing by more than MORE.
+// Longer than any listing by more than MORE: a part of it that a call wants and it has not counts as wrong.
 const ROOM: usize = 4096;
 
 const MORE: usize = 2048;
