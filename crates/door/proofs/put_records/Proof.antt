@@ -1,0 +1,87 @@
+-- The invariant: the places passed hold the records, and the others what they held at entry.
+use Prim.Native.Nat.{ℕ, _-_, _≤_}
+use mathlib.Core.List.{List, map}
+use mathlib.Core.Path.{_≡_, refl, ap, _∙_}
+use native.Mathlib.Omega.{arith}
+use lib.ListN.{length, set, length-set}
+use Rattle.records.specs.Sets.{noRecord}
+use Rattle.records.specs.declared.Records.{Records}
+use Rattle.door.specs.Places.{placeOf, recordsIn}
+use Rattle.door.proofs.Laws.{soFar, so-far-more, so-far-done, place-at, places-count}
+use borrow.Author.Needs.{needs}
+use Rattle.door.proofs.put_records.Statement.{statement}
+use Rattle.door.proofs.put_records.Tie as tie
+
+abbrev Inv-loop : tie.InvT-loop
+Inv-loop places₀ records i₀ places i =
+    (i ≤ records .count) × (length places ≡ length places₀) × (places ≡ soFar (map placeOf (recordsIn records)) places₀ i)
+
+abbrev μ-loop : tie.MeasureT-loop
+μ-loop places₀ records i₀ places i = records .count - i
+
+loop-holds : tie.Need-loop-holds Inv-loop μ-loop
+loop-holds c = (omega arith, refl, refl)
+
+mul-item : tie.Need-mul-item Inv-loop μ-loop
+mul-item c = omega (arith, c .before .before .pre .0)
+
+element-copy-out-item : tie.Need-element-copy-out-item Inv-loop μ-loop
+element-copy-out-item c = omega (arith, c .before .before .pre .0)
+
+words-requires : tie.Need-words-requires Inv-loop μ-loop
+words-requires c κs = search needs
+
+mul-t6 : tie.Need-mul-t6 Inv-loop μ-loop
+mul-t6 c = omega (arith, c .before .before .before .before .pre .0)
+
+slice-set-from-places : tie.Need-slice-set-from-places Inv-loop μ-loop
+slice-set-from-places c = omega (arith, c .before .before .before .before .pre .2)
+
+add-i : tie.Need-add-i Inv-loop μ-loop
+add-i c = omega (arith, c .before .before .before .before .pre .0)
+
+loop-less : tie.Need-loop-less Inv-loop μ-loop
+loop-less c = omega arith
+
+loop-again : tie.Need-loop-again Inv-loop μ-loop
+loop-again c =
+    let l = c .before .before .before .loop in
+    let start = c .before .before .before .before in
+    let s : Records = start .args .t1 in
+    let places : List (List ℕ) = start .args .places .now in
+    let n : length (map placeOf (recordsIn s)) ≡ s .count = places-count s (start .pre .1) in (
+      omega arith,
+      length-set (l .places) (l .i) (c .words .result) ∙ l .inv .1,
+      ap (λ (p : List (List ℕ)). set p (l .i) (c .words .result)) (l .inv .2)
+          ∙ so-far-more (map placeOf (recordsIn s)) places (omega (arith, start .pre .2)) (placeOf noRecord) (l .i) (c .words .result) (omega arith)
+          (c .words .ensures ∙ place-at s (l .i) (omega arith)),
+    )
+
+same-length : tie.Need-same-length Inv-loop μ-loop
+same-length c = c .before .loop .inv .1
+
+returns : tie.Need-returns Inv-loop μ-loop
+returns c =
+    let l = c .before .loop in
+    let start = c .before .before in
+    let s : Records = start .args .t1 in
+    let n : length (map placeOf (recordsIn s)) ≡ s .count = places-count s (start .pre .1) in
+    l .inv .2 ∙ so-far-done (map placeOf (recordsIn s)) (start .args .places .now) (omega (arith, start .pre .2)) (l .i) (omega arith)
+
+pub put-records-spec : {M : Type 1} → statement M
+put-records-spec =
+    tie.close
+    (tie.spec
+    Inv-loop
+    μ-loop
+    loop-holds
+    mul-item
+    element-copy-out-item
+    words-requires
+    mul-t6
+    slice-set-from-places
+    add-i
+    loop-less
+    loop-again
+    same-length
+    returns)

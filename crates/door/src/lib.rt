@@ -1,0 +1,175 @@
+// The C functions: each calls a function of the crates below and tells its answer in numbers, a refusal as its number and what it carries.
+// `include/esr.h` declares them.
+ghost use Prim.Native.Nat.{_≤_};
+ghost use Rattle.door.specs.Answers.{filledWith, refusedWith};
+ghost use Rattle.door.specs.Buffers.{front};
+ghost use Rattle.door.specs.Places.{placeOf, recordsIn};
+ghost use Rattle.door.specs.Promises.{DecodedInto, EntryTold, NumberTold, TextPut};
+ghost use Rattle.records.specs.Refusals.{refusalNumber};
+ghost use Rattle.records.specs.Sets.{setRoom};
+ghost use Rattle.texts.specs.Pool.{bytesAt};
+ghost use lib.Dec.{eqb};
+ghost use lib.ListN.{length};
+ghost use mathlib.Core.Bool.{cond};
+ghost use mathlib.Core.List.{map};
+ghost use mathlib.Core.Path.{_≡_};
+use records::Record;
+use records::Records;
+use records::Refusal;
+
+// How many places or bytes the front of the caller's array now holds; none on a refusal.
+#[repr(C)]
+pub struct Filled {
+    pub carried: u64,
+    pub count: usize,
+    pub refusal: u8,
+}
+
+#[repr(C)]
+pub struct NumberAnswer {
+    pub value: u64,
+    pub carried: u64,
+    pub refusal: u8,
+}
+
+// The body is told by its place in the caller's own block: where it starts, and how many bytes it has.
+#[repr(C)]
+pub struct EntryAnswer {
+    pub esr: u64,
+    pub carried: u64,
+    pub start: usize,
+    pub length: usize,
+    pub sequence: u16,
+    pub refusal: u8,
+}
+
+// The bytes of an entry's length, which stand before its body.
+const LENGTH_BYTES: usize = 2;
+
+fn accepted(count: usize) -> Filled
+    ensures { λ r. ⌜ r ≡ filledWith count ⌝ }
+{
+    Filled {
+        carried: 0,
+        count,
+        refusal: 0,
+    }
+}
+
+fn refused(refusal: Refusal) -> Filled
+    ensures { λ r. ⌜ r ≡ refusedWith refusal ⌝ }
+{
+    Filled {
+        carried: refusal.carries(),
+        count: 0,
+        refusal: refusal.number(),
+    }
+}
+
+// A record as two words, the second with all but the value: from low bits to high, as its fields lie in a little-endian machine.
+fn words(item: Record) -> [u64; 2]
+    ensures { λ r. ⌜ r ≡ placeOf item ⌝ }
+{
+    let names = item.name as u64 + item.long as u64 * 0x1_0000;
+    let bits = item.start as u64 + item.width as u64 * 0x100;
+    [
+        item.value,
+        names + item.text as u64 * 0x1_0000_0000 + bits * 0x1_0000_0000_0000,
+    ]
+}
+
+fn put_records(records: Records, places: &mut [[u64; 2]])
+    requires { ⌜ (records .count ≤ setRoom) × (length (recordsIn records) ≡ records .count) × (records .count ≤ length (now places)) ⌝ }
+    ensures { λ _. ⌜ now (places .exit) ≡ front (map placeOf (recordsIn records)) (now (places .entry)) ⌝ }
+{
+    let mut i: usize = 0;
+    while i < records.count {
+        let item = records.items[i];
+        places[i] = words(item);
+        i += 1;
+    }
+}
+
+#[no_mangle]
+pub extern "C" fn esr_decode(esr: u64, places: &mut [[u64; 2]]) -> Filled
+    ensures { λ r. ⌜ DecodedInto (esr, now (places .entry)) (r, now (places .exit)) ⌝ }
+{
+    let answer = esr::decode(esr);
+    let refusal = answer.refusal;
+    if refusal.number() != 0 {
+        return refused(refusal);
+    }
+    let records = answer.records;
+    let count = records.count;
+    if places.len() < count {
+        return refused(Refusal::ShortBuffer(count as u64));
+    }
+    put_records(records, places);
+    accepted(count)
+}
+
+fn put_text(code: u16, buf: &mut [u8])
+    requires { ⌜ length (bytesAt code) ≤ length (now buf) ⌝ }
+    ensures { λ _. ⌜ now (buf .exit) ≡ front (bytesAt code) (now (buf .entry)) ⌝ }
+{
+    let pool = texts::pool_bytes();
+    let starts = texts::starting_places();
+    let length = texts::length_in(&starts, code) as usize;
+    let mut i: usize = 0;
+    while i < length {
+        buf[i] = texts::byte_in(&pool, &starts, code, i);
+        i += 1;
+    }
+}
+
+#[no_mangle]
+pub extern "C" fn esr_text(code: u16, buf: &mut [u8]) -> Filled
+    ensures { λ r. ⌜ TextPut (code, now (buf .entry)) (r, now (buf .exit)) ⌝ }
+{
+    let length = texts::length_of(code) as usize;
+    if buf.len() < length {
+        return refused(Refusal::ShortBuffer(length as u64));
+    }
+    put_text(code, buf);
+    accepted(length)
+}
+
+#[no_mangle]
+pub extern "C" fn esr_parse_number(s: &[u8]) -> NumberAnswer
+    ensures { λ r. ⌜ NumberTold (now (s .entry)) r ⌝ }
+{
+    let number = number::parse_number(s);
+    let refusal = number.refusal;
+    NumberAnswer {
+        value: number.value,
+        carried: refusal.carries(),
+        refusal: refusal.number(),
+    }
+}
+
+// Where the body starts in the block: behind the length's bytes, where there is one.
+fn body_start(refusal: Refusal) -> usize
+    ensures { λ r. ⌜ r ≡ cond (eqb (refusalNumber refusal) 0) 2 0 ⌝ }
+{
+    if refusal.number() == 0 {
+        return LENGTH_BYTES;
+    }
+    0
+}
+
+#[no_mangle]
+pub extern "C" fn esr_read_entry(block: &[u8]) -> EntryAnswer
+    ensures { λ r. ⌜ EntryTold (now (block .entry)) r ⌝ }
+{
+    let numbers = entry::read_entry(block);
+    let refusal = numbers.refusal;
+    let body = entry::entry_body(block);
+    EntryAnswer {
+        esr: numbers.esr,
+        carried: refusal.carries(),
+        start: body_start(refusal),
+        length: body.len(),
+        sequence: numbers.sequence,
+        refusal: refusal.number(),
+    }
+}
