@@ -1,0 +1,82 @@
+-- What the promises come to for a caller: a refusal leaves the array as it was; a place gives its record's fields back; the body is where
+-- the answer says. By the cases of each definition, and a field of a place as a digit of its word.
+use Prim.Native.Nat.{ℕ, _+_, _*_, _^_, _≤_, _<_}
+use mathlib.Core.Bool.{Bool, true, false, cond}
+use mathlib.Core.List.{List, [], _∷_, map}
+use mathlib.Core.Path.{_≡_, refl, sym, ap, ap₂, _∙_}
+use native.Mathlib.Omega.{arith}
+use lib.Dec.{eqb, leb}
+use lib.ListN.{length, getD, take, drop, length-drop}
+use lib.Seq.{drop-append-seam, length-take-le}
+use borrow.Author.Tests.{eqb-true, eqb-false}
+use Rattle.entry.proofs.Laws.{facts, body-sound, body-refused}
+use Rattle.entry.specs.Entries.{judged, sound, bodyOf}
+use Rattle.esr.specs.Decode.{passed, answerOf}
+use Rattle.records.specs.Bits.{fieldOf}
+use Rattle.records.specs.Refusals.{refusalNumber}
+use Rattle.records.specs.declared.Record.{Record}
+use Rattle.door.specs.Answers.{bodyStart, entryTold}
+use Rattle.door.specs.Buffers.{front, refusing, filling}
+use Rattle.door.specs.Places.{placeOf, recordsIn, decoding}
+use Rattle.door.specs.declared.Filled.{Filled}
+
+-- A caller's array.
+
+-- what a refusal leaves: the array as it was
+pub record Kept {A : Type 0} (before : List A) (out : Filled × List A) : Type 0 where
+  pub kept : (out .0 .refusal ≡ 0 → ⊥) → out .1 ≡ before
+
+by-test : {A : Type 0} {before : List A} {x y : Filled × List A} (b : Bool) → Kept before x → Kept before y → Kept before (cond b x y)
+by-test true p q = p
+by-test false p q = q
+
+pub text-kept : {A : Type 0} (content before : List A) → Kept before (filling content before)
+unfolding filling
+text-kept content before = by-test (leb (length content) (length before)) (record { kept = λ h. absurd (h refl) }) (record { kept = λ h. refl })
+
+pub decode-kept : (esr : ℕ) (before : List (List ℕ)) → Kept before (decoding esr before)
+unfolding decoding
+decode-kept esr before =
+    by-test (passed (answerOf esr .refusal)) (text-kept (map placeOf (recordsIn (answerOf esr .records))) before) (record { kept = λ h. refl })
+
+-- A place.
+
+module _ (x : Record) (name : x .name < 2 ^ 16) (long : x .long < 2 ^ 16) (text : x .text < 2 ^ 16) (start : x .start < 2 ^ 8) (width : x .width < 2 ^ 8) where
+  abbrev word : ℕ
+  word = getD (placeOf x) 1 0
+
+  pub name-back : fieldOf word 0 16 ≡ x .name
+  unfolding fieldOf placeOf
+  name-back = omega arith
+
+  pub long-back : fieldOf word 16 16 ≡ x .long
+  unfolding fieldOf placeOf
+  long-back = omega arith
+
+  pub text-back : fieldOf word 32 16 ≡ x .text
+  unfolding fieldOf placeOf
+  text-back = omega arith
+
+  pub start-back : fieldOf word 48 8 ≡ x .start
+  unfolding fieldOf placeOf
+  start-back = omega arith
+
+  pub width-back : fieldOf word 56 8 ≡ x .width
+  unfolding fieldOf placeOf
+  width-back = omega arith
+
+-- The body: that many bytes of the block, from there on.
+
+pub body-there : (s : List ℕ) → take (entryTold s .length) (drop (entryTold s .start) s) ≡ bodyOf s
+unfolding entryTold
+body-there s = by (sound s) refl
+  where
+    by : (b : Bool) → sound s ≡ b → take (length (bodyOf s)) (drop (cond b 2 0) s) ≡ bodyOf s
+    by true h =
+        let free : refusalNumber (judged s) ≡ 0 = eqb-true (refusalNumber (judged s)) 0 h in
+        let is = body-sound s free in
+        let n : length (bodyOf s) ≡ 11 = ap length is ∙ length-take-le 11 (drop 2 s) (omega (arith, facts s free .long, length-drop 2 s)) in
+        ap (λ (k : ℕ). take k (drop 2 s)) n ∙ sym is
+    by false h =
+        let none = body-refused s (eqb-false (refusalNumber (judged s)) 0 h) in
+        ap (λ (k : ℕ). take k s) (ap length none) ∙ sym none

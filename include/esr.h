@@ -1,0 +1,120 @@
+/* Arm exception syndromes (ESR_ELx), decoded: the C functions of libdoor.a.
+
+   Every function takes any value, bytes and lengths. It never allocates, keeps no state, and calls nothing but memcpy. Each is proved to
+   answer what its promise says (crates/door/specs/Promises.antt); what is said here is that promise in words. The layout of the structs
+   below is not proved: the assertions at the end and tools/door hold it against the archive.
+
+   What the caller owes: a pointer that is not null, also where the length is 0, to as many elements as the length says, which nothing else
+   writes during the call. C99. The archive is for little-endian x86-64. */
+#ifndef ESR_H
+#define ESR_H
+
+#include <stddef.h>
+#include <stdint.h>
+
+#ifdef __cplusplus
+extern "C" {
+#endif
+
+/* Why an answer was refused: the member refusal of every answer. What it carries stands in the member carried, 0 where nothing is said. */
+enum {
+    ESR_ACCEPTED = 0,
+    ESR_INVALID_RES0 = 1,      /* a checked reserved field isn't 0; that field's value, shifted down */
+    ESR_INVALID_EC = 2,        /* class not tabulated; the class */
+    ESR_INVALID_FSC = 3,       /* a status that is read isn't on its list; the status */
+    ESR_INVALID_SET = 4,       /* status 0x10 in an abort class and SET = 1; SET */
+    ESR_INVALID_AET = 5,       /* AET 4, 5 or 7 where AET is read; AET */
+    ESR_INVALID_AM = 6,        /* AM 5 or 7; AM */
+    ESR_INVALID_LD64B_ISS = 7, /* class 0x0A, ISS above 2; ISS */
+    ESR_EMPTY = 8,             /* a number without characters after any "0x" */
+    ESR_INVALID_DIGIT = 9,     /* a number with a character that is not a digit */
+    ESR_POS_OVERFLOW = 10,     /* a number past 2^64-1 */
+    ESR_SHORT_BUFFER = 11,     /* what is to be written is longer than the array; the bytes or places needed */
+    ESR_BAD_FIELD = 12,        /* width not 1..64, value not below 2^width, or a message asked for outside 1 to 7 */
+    ESR_BAD_INDEX = 13,        /* record index not below the record count; the count */
+    ESR_SHORT_ENTRY = 14,      /* fewer bytes than an entry's length takes, or than it says */
+    ESR_BAD_LENGTH = 15,       /* an entry's length is not 11 */
+    ESR_BAD_VERSION = 16,      /* an entry's version is not 1 */
+    ESR_UNREACHED = 17         /* SAS or TI above 3; the number. No value gets it */
+};
+
+/* As many records as any value has: 14 inside ISS, 19 in all. */
+#define ESR_RECORDS_MAX 19
+
+/* As many bytes as any name or text has. */
+#define ESR_TEXT_MAX 255
+
+/* A field of a value: bits start .. start + width, shifted down. name, long_name and text are codes, for esr_text; the code 0 is none. */
+typedef struct esr_record {
+    uint64_t value;
+    uint16_t name;
+    uint16_t long_name;
+    uint16_t text;
+    uint8_t start;
+    uint8_t width;
+} esr_record;
+
+/* How many elements of the caller's array, from its front, now hold the answer; 0 on a refusal. */
+typedef struct esr_filled {
+    uint64_t carried;
+    size_t count;
+    uint8_t refusal;
+} esr_filled;
+
+typedef struct esr_number {
+    uint64_t value;
+    uint64_t carried;
+    uint8_t refusal;
+} esr_number;
+
+/* The body is block[body] to block[body + body_length - 1], those same bytes of the caller's block. */
+typedef struct esr_entry {
+    uint64_t esr;
+    uint64_t carried;
+    size_t body;
+    size_t body_length;
+    uint16_t sequence;
+    uint8_t refusal;
+} esr_entry;
+
+/* Decodes a value into the front of the caller's array: RES0, ISS2, EC, IL and ISS, then ISS's own records, from high bits to low.
+   First 37..64 must be 0, then the class is looked up, then its layout's checks in their order; the first failure answers, by 1 to 7. Then
+   an array that has fewer places than there are records is refused by 11, which carries the places needed. A refusal leaves the array as it
+   was; accepted, the places behind the records stay as they were. */
+esr_filled esr_decode(uint64_t esr, esr_record *places, size_t length);
+
+/* Writes the name, long name or text of a code into the front of the buffer, without a 0 behind it. 11 where the text is longer than the
+   buffer, carrying the bytes needed; the buffer then stays as it was. Accepted, the bytes behind the text stay. A code of no text gives
+   0 bytes. */
+esr_filled esr_text(uint16_t code, uint8_t *buffer, size_t length);
+
+/* Reads a number: an exact "0x" selects base 16 (letters of either case), else 10. Then one "+" may stand if a character follows. Characters
+   go left to right: not a digit is 9; a digit that takes the result past 2^64-1 is 10; the first offender answers. No characters after any
+   "0x" is 8. The value of a refused number is 0. */
+esr_number esr_parse_number(const uint8_t *characters, size_t length);
+
+/* Reads the flash entry at the front of a block, big-endian: two bytes of length (bytes that follow), version 1, two of sequence, eight of
+   ESR; so length 11, 13 bytes in all. Order: fewer than 2 bytes, 14; length 0, 15; fewer than 2 + length, 14; version, 16; length not 11,
+   15. Accepted: sequence, ESR and the body, the 11 bytes after the length. On a refusal they are 0 and the body is empty. The ESR itself
+   isn't judged here: esr_decode does that. */
+esr_entry esr_read_entry(const uint8_t *block, size_t length);
+
+/* What the archive takes for granted of the compiler. A false line does not compile. */
+#define ESR_HOLDS(name, fact) typedef char esr_holds_##name[(fact) ? 1 : -1]
+ESR_HOLDS(record, sizeof(esr_record) == 16 && offsetof(esr_record, value) == 0);
+ESR_HOLDS(record_names, offsetof(esr_record, name) == 8 && offsetof(esr_record, long_name) == 10 && offsetof(esr_record, text) == 12);
+ESR_HOLDS(record_bits, offsetof(esr_record, start) == 14 && offsetof(esr_record, width) == 15);
+ESR_HOLDS(filled, sizeof(esr_filled) == 24 && offsetof(esr_filled, count) == 8 && offsetof(esr_filled, refusal) == 16);
+ESR_HOLDS(number, sizeof(esr_number) == 24 && offsetof(esr_number, carried) == 8 && offsetof(esr_number, refusal) == 16);
+ESR_HOLDS(entry, sizeof(esr_entry) == 40 && offsetof(esr_entry, carried) == 8 && offsetof(esr_entry, body) == 16);
+ESR_HOLDS(entry_rest, offsetof(esr_entry, body_length) == 24 && offsetof(esr_entry, sequence) == 32 && offsetof(esr_entry, refusal) == 34);
+#undef ESR_HOLDS
+#if defined(__BYTE_ORDER__) && __BYTE_ORDER__ != __ORDER_LITTLE_ENDIAN__
+#error "a place holds name, long_name, text, start and width as one 64-bit word, whose bytes lie in this order on a little-endian machine alone"
+#endif
+
+#ifdef __cplusplus
+}
+#endif
+
+#endif
