@@ -1,0 +1,306 @@
+/* Holds include/esr.h against the archive: calls every function as C does, with arrays of every length about the needed one and a sentinel
+   behind, and looks at every member of every answer. The answers themselves are proved; what is not is that C and the archive mean the same
+   by a struct and a parameter. It then measures how deep each function's stack goes. tools/door builds and runs it. */
+#include "esr.h"
+
+void put(const uint8_t *bytes, size_t length);
+
+#define SENTINEL 0xA5
+#define ROOM (ESR_RECORDS_MAX + 13)
+#define BYTES (ESR_TEXT_MAX + 45)
+
+static unsigned checks;
+static unsigned failures;
+
+static void say(const char *words) {
+    size_t length = 0;
+    while (words[length] != 0) {
+        length++;
+    }
+    put((const uint8_t *)words, length);
+}
+
+static void say_decimal(uint64_t number) {
+    uint8_t digits[20];
+    size_t at = sizeof digits;
+    do {
+        digits[--at] = (uint8_t)('0' + number % 10);
+        number /= 10;
+    } while (number != 0);
+    put(digits + at, sizeof digits - at);
+}
+
+static void holds(int fact, unsigned line) {
+    checks++;
+    if (!fact) {
+        failures++;
+        say("line ");
+        say_decimal(line);
+        say(" of tools/door.c does not hold\n");
+    }
+}
+#define HOLDS(fact) holds((fact), __LINE__)
+
+static void mark(uint8_t *bytes, size_t length) {
+    for (size_t i = 0; i < length; i++) {
+        *(volatile uint8_t *)(bytes + i) = SENTINEL;
+    }
+}
+
+static int marked(const uint8_t *bytes, size_t from, size_t to) {
+    for (size_t i = from; i < to; i++) {
+        if (bytes[i] != SENTINEL) {
+            return 0;
+        }
+    }
+    return 1;
+}
+
+static int same(const uint8_t *a, const uint8_t *b, size_t length) {
+    for (size_t i = 0; i < length; i++) {
+        if (a[i] != b[i]) {
+            return 0;
+        }
+    }
+    return 1;
+}
+
+static size_t length_of(const char *words) {
+    size_t length = 0;
+    while (words[length] != 0) {
+        length++;
+    }
+    return length;
+}
+
+static int answers(esr_filled filled, uint8_t refusal, uint64_t carried, size_t count) {
+    return filled.refusal == refusal && filled.carried == carried && filled.count == count;
+}
+
+/* The values that 01 marks: the refusal with what it carries, or the count of records. */
+static const struct {
+    uint64_t esr;
+    uint64_t carried;
+    size_t count;
+    uint8_t refusal;
+} values[] = {
+    {0x0, 0, 6, 0},         {0x56000001, 0, 7, 0},  {0x2000000000, 1, 0, 1}, {0xFC000000, 0x3F, 0, 2}, {0x20FC000000, 1, 0, 1},
+    {0x54010000, 1, 0, 1},  {0x90000810, 1, 0, 4},  {0x90000804, 0, 18, 0},  {0x90010010, 0, 19, 0},   {0xBC001000, 4, 0, 5},
+    {0xBC001002, 2, 0, 3},  {0xBDFFFFFF, 0, 7, 0},  {0xBC000051, 1, 0, 1},   {0x1800000A, 5, 0, 6},    {0x28000003, 3, 0, 7},
+};
+
+static union {
+    esr_record records[ROOM];
+    uint8_t bytes[ROOM * sizeof(esr_record)];
+} places, whole;
+
+static void check_lengths(size_t index) {
+    uint64_t esr = values[index].esr;
+    size_t count = values[index].count;
+    uint8_t refusal = values[index].refusal;
+    mark(whole.bytes, sizeof whole.bytes);
+    HOLDS(answers(esr_decode(esr, whole.records, ROOM), refusal, values[index].carried, count));
+    HOLDS(marked(whole.bytes, count * sizeof(esr_record), sizeof whole.bytes));
+    for (size_t length = 0; length <= ROOM; length++) {
+        mark(places.bytes, sizeof places.bytes);
+        esr_filled filled = esr_decode(esr, places.records, length);
+        if (refusal == ESR_ACCEPTED && length < count) {
+            HOLDS(answers(filled, ESR_SHORT_BUFFER, count, 0));
+            HOLDS(marked(places.bytes, 0, sizeof places.bytes));
+        } else {
+            HOLDS(answers(filled, refusal, values[index].carried, count));
+            HOLDS(same(places.bytes, whole.bytes, sizeof places.bytes));
+        }
+    }
+}
+
+static uint8_t text[BYTES];
+static uint8_t kept[BYTES];
+
+static int named(uint16_t code, const char *words) {
+    size_t length = length_of(words);
+    return answers(esr_text(code, text, BYTES), ESR_ACCEPTED, 0, length) && same(text, (const uint8_t *)words, length);
+}
+
+static int is(size_t place, const char *name, const char *long_name, const char *words, unsigned start, unsigned width, uint64_t value) {
+    const esr_record *record = &places.records[place];
+    return record->start == start && record->width == width && record->value == value && named(record->name, name) &&
+           named(record->long_name, long_name) && named(record->text, words);
+}
+
+/* Every member of a record, by the value that 01 lists in full and by one with distinct numbers in most fields. */
+static void check_members(void) {
+    HOLDS(esr_decode(0x56000001, places.records, ROOM).count == 7);
+    HOLDS(is(0, "RES0", "Reserved", "", 37, 27, 0));
+    HOLDS(is(1, "ISS2", "", "", 32, 5, 0));
+    HOLDS(is(2, "EC", "Exception Class", "SVC instruction execution in AArch64 state", 26, 6, 0x15));
+    HOLDS(is(3, "IL", "Instruction Length", "32-bit instruction trapped", 25, 1, 1));
+    HOLDS(is(4, "ISS", "Instruction Specific Syndrome", "", 0, 25, 1));
+    HOLDS(is(5, "RES0", "Reserved", "", 16, 9, 0));
+    HOLDS(is(6, "imm16", "Value of the immediate field", "", 0, 16, 1));
+    HOLDS(esr_decode(0x1F56ABCDEF, places.records, ROOM).refusal == ESR_INVALID_RES0);
+    HOLDS(esr_decode(0x1F5600CDEF, places.records, ROOM).count == 7);
+    HOLDS(is(1, "ISS2", "", "", 32, 5, 0x1F));
+    HOLDS(is(6, "imm16", "Value of the immediate field", "", 0, 16, 0xCDEF));
+}
+
+static void check_text(uint16_t code) {
+    mark(text, BYTES);
+    esr_filled filled = esr_text(code, text, 0);
+    size_t needed = filled.refusal == ESR_ACCEPTED ? 0 : (size_t)filled.carried;
+    HOLDS(needed <= ESR_TEXT_MAX);
+    HOLDS(answers(filled, needed == 0 ? ESR_ACCEPTED : ESR_SHORT_BUFFER, needed, 0));
+    HOLDS(marked(text, 0, BYTES));
+    if (needed != 0) {
+        HOLDS(answers(esr_text(code, text, needed - 1), ESR_SHORT_BUFFER, needed, 0));
+        HOLDS(marked(text, 0, BYTES));
+    }
+    mark(kept, BYTES);
+    HOLDS(answers(esr_text(code, kept, BYTES), ESR_ACCEPTED, 0, needed));
+    HOLDS(marked(kept, needed, BYTES));
+    HOLDS(answers(esr_text(code, text, needed), ESR_ACCEPTED, 0, needed));
+    HOLDS(same(text, kept, BYTES));
+    mark(text, BYTES);
+    HOLDS(answers(esr_text(code, text, needed + 1), ESR_ACCEPTED, 0, needed));
+    HOLDS(same(text, kept, BYTES));
+}
+
+static int reads(const char *words, uint8_t refusal, uint64_t value) {
+    esr_number number = esr_parse_number((const uint8_t *)words, length_of(words));
+    return number.refusal == refusal && number.carried == 0 && number.value == value;
+}
+
+static void check_numbers(void) {
+    HOLDS(reads("0x+f", ESR_ACCEPTED, 15));
+    HOLDS(reads("18446744073709551615", ESR_ACCEPTED, 0xFFFFFFFFFFFFFFFF));
+    HOLDS(reads("0x0123456789abCDEF", ESR_ACCEPTED, 0x0123456789ABCDEF));
+    HOLDS(reads("", ESR_EMPTY, 0));
+    HOLDS(reads("0x", ESR_EMPTY, 0));
+    HOLDS(reads("0X1f", ESR_INVALID_DIGIT, 0));
+    HOLDS(reads("+", ESR_INVALID_DIGIT, 0));
+    HOLDS(reads("18446744073709551616x", ESR_POS_OVERFLOW, 0));
+}
+
+static uint8_t block[] = {0x00, 0x0B, 0x01, 0x12, 0x34, 0x01, 0x23, 0x45, 0x67, 0x89, 0xAB, 0xCD, 0xEF, 0x55};
+
+static int refuses(size_t length, uint8_t refusal) {
+    esr_entry entry = esr_read_entry(block, length);
+    return entry.refusal == refusal && entry.carried == 0 && entry.esr == 0 && entry.sequence == 0 && entry.body == 0 && entry.body_length == 0;
+}
+
+static int refuses_with(size_t place, uint8_t byte, uint8_t refusal) {
+    uint8_t was = block[place];
+    block[place] = byte;
+    int fact = refuses(sizeof block, refusal);
+    block[place] = was;
+    return fact;
+}
+
+static void check_entries(void) {
+    for (size_t length = 13; length <= sizeof block; length++) {
+        esr_entry entry = esr_read_entry(block, length);
+        HOLDS(entry.refusal == ESR_ACCEPTED && entry.carried == 0);
+        HOLDS(entry.esr == 0x0123456789ABCDEF && entry.sequence == 0x1234);
+        HOLDS(entry.body == 2 && entry.body_length == 11);
+    }
+    for (size_t length = 0; length < 13; length++) {
+        HOLDS(refuses(length, ESR_SHORT_ENTRY));
+    }
+    HOLDS(refuses_with(1, 0, ESR_BAD_LENGTH));
+    HOLDS(refuses_with(1, 12, ESR_BAD_LENGTH));
+    HOLDS(refuses_with(1, 13, ESR_SHORT_ENTRY));
+    HOLDS(refuses_with(0, 0xFF, ESR_SHORT_ENTRY));
+    HOLDS(refuses_with(2, 2, ESR_BAD_VERSION));
+}
+
+/* The stack below a call is painted, and what is no longer paint afterwards was used; the frame of the small function that makes the call
+   counts too. This file is compiled without a red zone, so that nothing of its own lies there. */
+#define PAINTED 65536
+
+static void *volatile sink;
+static uint64_t asked;
+
+static void call_decode(void) {
+    static esr_filled filled;
+    filled = esr_decode(asked, places.records, ROOM);
+    sink = &filled;
+}
+
+static void call_text(void) {
+    static esr_filled filled;
+    filled = esr_text((uint16_t)asked, text, BYTES);
+    sink = &filled;
+}
+
+static void call_parse_number(void) {
+    static esr_number number;
+    number = esr_parse_number((const uint8_t *)"0x0123456789abcdef", (size_t)asked % 19);
+    sink = &number;
+}
+
+static void call_read_entry(void) {
+    static esr_entry entry;
+    entry = esr_read_entry(block, (size_t)asked % (sizeof block + 1));
+    sink = &entry;
+}
+
+__attribute__((noinline)) static size_t stack_of(void (*call)(void)) {
+    volatile uint8_t *top;
+    __asm__ volatile("mov %%rsp, %0" : "=r"(top));
+    for (size_t i = 1; i <= PAINTED; i++) {
+        top[-(ptrdiff_t)i] = SENTINEL;
+    }
+    call();
+    size_t deepest = PAINTED;
+    while (0 < deepest && top[-(ptrdiff_t)deepest] == SENTINEL) {
+        deepest--;
+    }
+    return deepest;
+}
+
+static void measure(const char *name, void (*call)(void), uint64_t (*value)(size_t), size_t count) {
+    size_t deepest = 0;
+    for (size_t i = 0; i < count; i++) {
+        asked = value(i);
+        size_t used = stack_of(call);
+        deepest = deepest < used ? used : deepest;
+    }
+    say("stack ");
+    say(name);
+    say(" ");
+    say_decimal(deepest);
+    say("\n");
+}
+
+/* Every class, with ISS at 0 and at some of the marked values' bits. */
+static uint64_t syndrome(size_t i) {
+    return (uint64_t)(i % 64) << 26 | (values[i / 64].esr & 0x1FFFFFF);
+}
+
+static uint64_t counted(size_t i) {
+    return i;
+}
+
+int main(void) {
+    size_t marked_values = sizeof values / sizeof values[0];
+    for (size_t i = 0; i < marked_values; i++) {
+        check_lengths(i);
+    }
+    check_members();
+    for (unsigned code = 0; code <= 0xFFFF; code++) {
+        check_text((uint16_t)code);
+    }
+    check_numbers();
+    check_entries();
+    if (failures != 0) {
+        return 1;
+    }
+    say("checks ");
+    say_decimal(checks);
+    say("\n");
+    measure("esr_decode", call_decode, syndrome, 64 * marked_values);
+    measure("esr_text", call_text, counted, 1024);
+    measure("esr_parse_number", call_parse_number, counted, 19);
+    measure("esr_read_entry", call_read_entry, counted, sizeof block + 1);
+    return 0;
+}
