@@ -1,10 +1,8 @@
 /* What stands around a program here in place of a unit, with no C library: its start and end, put() to standard output, and memcpy, the one
    function that the archive asks for. x86-64 Linux. */
-#include <stddef.h>
-#include <stdint.h>
+#include "put.h"
 
 int main(void);
-void put(const uint8_t *bytes, size_t length);
 void *memcpy(void *restrict to, const void *restrict from, size_t length);
 void begin(void);
 

@@ -1,8 +1,7 @@
 /* A boot stage of the unit: reads the entry at the front of a flash block and writes what it says, or why it is not believed.
-   All that it asks of its surroundings is put(). Here that is standard output (examples/freestanding.c); a unit has a serial line there. */
+   What a unit has to bring: put() and memcpy, as freestanding.c has them for Linux. */
 #include "esr.h"
-
-void put(const uint8_t *bytes, size_t length);
+#include "put.h"
 
 /* Two bytes of length, version 1, two of sequence, eight of ESR; behind them flash that was never written. */
 static const uint8_t sound[16] = {0x00, 0x0B, 0x01, 0x00, 0x07, 0x00, 0x00, 0x00, 0x00, 0x56, 0x00, 0x00, 0x01, 0xFF, 0xFF, 0xFF};
@@ -14,24 +13,6 @@ static const uint8_t erased[16] = {0xFF, 0xFF, 0xFF, 0xFF, 0xFF, 0xFF, 0xFF, 0xF
 /* What a unit needs of memory lies here, and is known when it is linked. */
 static esr_record records[ESR_RECORDS_MAX];
 static uint8_t text[ESR_TEXT_MAX];
-
-static void say(const char *words) {
-    size_t length = 0;
-    while (words[length] != 0) {
-        length++;
-    }
-    put((const uint8_t *)words, length);
-}
-
-static void say_number(uint64_t number, unsigned base) {
-    uint8_t digits[20];
-    size_t at = sizeof digits;
-    do {
-        digits[--at] = (uint8_t)"0123456789abcdef"[number % base];
-        number /= base;
-    } while (number != 0);
-    put(digits + at, sizeof digits - at);
-}
 
 static void say_code(uint16_t code) {
     put(text, esr_text(code, text, sizeof text).count);

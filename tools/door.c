@@ -2,8 +2,7 @@
    behind, and looks at every member of every answer. The answers themselves are proved; what is not is that C and the archive mean the same
    by a struct and a parameter. It then measures how deep each function's stack goes. tools/door builds and runs it. */
 #include "esr.h"
-
-void put(const uint8_t *bytes, size_t length);
+#include "put.h"
 
 #define SENTINEL 0xA5
 #define ROOM (ESR_RECORDS_MAX + 13)
@@ -12,30 +11,12 @@ void put(const uint8_t *bytes, size_t length);
 static unsigned checks;
 static unsigned failures;
 
-static void say(const char *words) {
-    size_t length = 0;
-    while (words[length] != 0) {
-        length++;
-    }
-    put((const uint8_t *)words, length);
-}
-
-static void say_decimal(uint64_t number) {
-    uint8_t digits[20];
-    size_t at = sizeof digits;
-    do {
-        digits[--at] = (uint8_t)('0' + number % 10);
-        number /= 10;
-    } while (number != 0);
-    put(digits + at, sizeof digits - at);
-}
-
 static void holds(int fact, unsigned line) {
     checks++;
     if (!fact) {
         failures++;
         say("line ");
-        say_decimal(line);
+        say_number(line, 10);
         say(" of tools/door.c does not hold\n");
     }
 }
@@ -63,14 +44,6 @@ static int same(const uint8_t *a, const uint8_t *b, size_t length) {
         }
     }
     return 1;
-}
-
-static size_t length_of(const char *words) {
-    size_t length = 0;
-    while (words[length] != 0) {
-        length++;
-    }
-    return length;
 }
 
 static int answers(esr_filled filled, uint8_t refusal, uint64_t carried, size_t count) {
@@ -268,7 +241,7 @@ static void measure(const char *name, void (*call)(void), uint64_t (*value)(size
     say("stack ");
     say(name);
     say(" ");
-    say_decimal(deepest);
+    say_number(deepest, 10);
     say("\n");
 }
 
@@ -296,7 +269,7 @@ int main(void) {
         return 1;
     }
     say("checks ");
-    say_decimal(checks);
+    say_number(checks, 10);
     say("\n");
     measure("esr_decode", call_decode, syndrome, 64 * marked_values);
     measure("esr_text", call_text, counted, 1024);
