@@ -24,8 +24,8 @@ use Rattle.records.specs.Sets.{setRoom, noRecord, recordsOf}
 use Rattle.records.specs.declared.Record.{Record}
 use Rattle.records.specs.declared.Records.{Records}
 use Rattle.records.specs.declared.Refusal.{Refusal}
-use Rattle.records.specs.declared.Refusal.the-variants.{InvalidEc, ShortBuffer}
-use Rattle.door.specs.Answers.{filledWith, refusedWith}
+use Rattle.records.specs.declared.Refusal.the-variants.{None, InvalidEc, ShortBuffer}
+use Rattle.door.specs.Answers.{toldAs}
 use Rattle.door.specs.Buffers.{front, refusing, filling}
 use Rattle.door.specs.Places.{placeOf, recordsIn, decoding}
 use Rattle.door.specs.declared.Filled.{Filled}
@@ -57,17 +57,17 @@ module _ {A : Type 0} (content before : List A) (fits : length content ≤ lengt
 
 -- what is answered with it
 module _ {A : Type 0} (content before : List A) (count : ℕ) (is : count ≡ length content) (r : Filled) where
-  pub told-short : length before < count → r ≡ refusedWith (ShortBuffer count) → (r, before) ≡ filling content before
+  pub told-short : length before < count → r ≡ toldAs (ShortBuffer count) 0 → (r, before) ≡ filling content before
   unfolding filling
   told-short h e =
-      ap (λ (x : Filled). (x, before)) (e ∙ ap (λ (n : ℕ). refusedWith (ShortBuffer n)) is)
+      ap (λ (x : Filled). (x, before)) (e ∙ ap (λ (n : ℕ). toldAs (ShortBuffer n) 0) is)
       ∙ simp (lt-leb (length content) (length before) (omega arith))
 
-  pub told-filled : (after : List A) → count ≤ length before → r ≡ filledWith count → after ≡ front content before
+  pub told-filled : (after : List A) → count ≤ length before → r ≡ toldAs None count → after ≡ front content before
       → (r, after) ≡ filling content before
   unfolding filling
   told-filled after h e f =
-      ap₂ (λ (x : Filled) (l : List A). (x, l)) (e ∙ ap filledWith is) f
+      ap₂ (λ (x : Filled) (l : List A). (x, l)) (e ∙ ap (toldAs None) is) f
       ∙ simp (le-leb (length content) (length before) (omega arith))
 
 -- The records of an answer.
@@ -128,7 +128,7 @@ module _ (esr : ℕ) (a : Answer) (is : a ≡ answerOf esr) where
 
   -- the refusal of the value, or its records
   module _ (before : List (List ℕ)) (number : ℕ) (told : number ≡ refusalNumber (a .refusal)) where
-    pub decode-refused : (r : Filled) → (number ≡ 0 → ⊥) → r ≡ refusedWith (a .refusal) → (r, before) ≡ decoding esr before
+    pub decode-refused : (r : Filled) → (number ≡ 0 → ⊥) → r ≡ toldAs (a .refusal) 0 → (r, before) ≡ decoding esr before
     unfolding decoding
     decode-refused r h e =
         ap (λ (x : Filled). (x, before)) e ∙ rw (← is) (rw (ne-eqb (refusalNumber (a .refusal)) 0 (λ z. h (told ∙ z))) refl)

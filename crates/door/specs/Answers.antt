@@ -11,12 +11,9 @@ use Rattle.door.specs.declared.EntryAnswer.{EntryAnswer}
 use Rattle.door.specs.declared.Filled.{Filled}
 use Rattle.door.specs.declared.NumberAnswer.{NumberAnswer}
 
--- nothing refused: the number 0, and so many places or bytes filled
-abbrev pub filledWith : ℕ → Filled
-filledWith count = record { carried = 0; count = count; refusal = 0 }
-
-abbrev pub refusedWith : Refusal → Filled
-refusedWith f = record { carried = refusalCarries f; count = 0; refusal = refusalNumber f }
+-- the number of a refusal, 0 where nothing is refused; what it carries; how many places or bytes are filled
+abbrev pub toldAs : Refusal → ℕ → Filled
+toldAs f count = record { carried = refusalCarries f; count = count; refusal = refusalNumber f }
 
 unfoldable pub numberTold : List ℕ → NumberAnswer
 numberTold s =

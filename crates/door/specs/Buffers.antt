@@ -4,19 +4,19 @@ use mathlib.Core.List.{List, _++_}
 use lib.Dec.{leb}
 use lib.ListN.{length, drop}
 use Rattle.records.specs.declared.Refusal.{Refusal}
-use Rattle.records.specs.declared.Refusal.the-variants.{ShortBuffer}
-use Rattle.door.specs.Answers.{filledWith, refusedWith}
+use Rattle.records.specs.declared.Refusal.the-variants.{None, ShortBuffer}
+use Rattle.door.specs.Answers.{toldAs}
 use Rattle.door.specs.declared.Filled.{Filled}
 
 abbrev pub front : {A : Type 0} → List A → List A → List A
 front content before = content ++ drop (length content) before
 
 abbrev pub refusing : {A : Type 0} → Refusal → List A → Filled × List A
-refusing f before = (refusedWith f, before)
+refusing f before = (toldAs f 0, before)
 
 -- 11 where there is less room than is needed, carrying what is needed
 unfoldable pub filling : {A : Type 0} → List A → List A → Filled × List A
 filling content before =
     cond (leb (length content) (length before))
-    (filledWith (length content), front content before)
+    (toldAs None (length content), front content before)
     (refusing (ShortBuffer (length content)) before)

@@ -1,7 +1,7 @@
 // The C functions: each calls a function of the crates below and tells its answer in numbers, a refusal as its number and what it carries.
 // `include/esr.h` declares them.
 ghost use Prim.Native.Nat.{_≤_};
-ghost use Rattle.door.specs.Answers.{filledWith, refusedWith};
+ghost use Rattle.door.specs.Answers.{toldAs};
 ghost use Rattle.door.specs.Buffers.{front};
 ghost use Rattle.door.specs.Places.{placeOf, recordsIn};
 ghost use Rattle.door.specs.Promises.{DecodedInto, EntryTold, NumberTold, TextPut};
@@ -46,22 +46,12 @@ pub struct EntryAnswer {
 // The bytes of an entry's length, which stand before its body.
 const LENGTH_BYTES: usize = 2;
 
-fn accepted(count: usize) -> Filled
-    ensures { λ r. ⌜ r ≡ filledWith count ⌝ }
-{
-    Filled {
-        carried: 0,
-        count,
-        refusal: 0,
-    }
-}
-
-fn refused(refusal: Refusal) -> Filled
-    ensures { λ r. ⌜ r ≡ refusedWith refusal ⌝ }
+fn told(refusal: Refusal, count: usize) -> Filled
+    ensures { λ r. ⌜ r ≡ toldAs refusal count ⌝ }
 {
     Filled {
         carried: refusal.carries(),
-        count: 0,
+        count,
         refusal: refusal.number(),
     }
 }
@@ -97,15 +87,15 @@ pub extern "C" fn esr_decode(esr: u64, places: &mut [[u64; 2]]) -> Filled
     let answer = esr::decode(esr);
     let refusal = answer.refusal;
     if refusal.number() != 0 {
-        return refused(refusal);
+        return told(refusal, 0);
     }
     let records = answer.records;
     let count = records.count;
     if places.len() < count {
-        return refused(Refusal::ShortBuffer(count as u64));
+        return told(Refusal::ShortBuffer(count as u64), 0);
     }
     put_records(records, places);
-    accepted(count)
+    told(Refusal::None, count)
 }
 
 fn put_text(code: u16, buf: &mut [u8])
@@ -128,10 +118,10 @@ pub extern "C" fn esr_text(code: u16, buf: &mut [u8]) -> Filled
 {
     let length = texts::length_of(code) as usize;
     if buf.len() < length {
-        return refused(Refusal::ShortBuffer(length as u64));
+        return told(Refusal::ShortBuffer(length as u64), 0);
     }
     put_text(code, buf);
-    accepted(length)
+    told(Refusal::None, length)
 }
 
 #[no_mangle]

@@ -14,8 +14,8 @@ decode-requires c κs = search needs
 number-requires : tie.Need-number-requires
 number-requires c κs = search needs
 
-refused-requires : tie.Need-refused-requires
-refused-requires c κs = search needs
+told-requires : tie.Need-told-requires
+told-requires c κs = search needs
 
 returns : tie.Need-returns
 returns c =
@@ -23,10 +23,10 @@ returns c =
     let d = n .before in
     let a = d .before .args in
     decode-refused (a .esr) (d .decode .result) (d .decode .ensures) (a .places .now) (n .number .result) (n .number .ensures)
-    (c .refused .result) (c .before .if1 .taken) (c .refused .ensures)
+    (c .told .result) (c .before .if1 .taken) (c .told .ensures)
 
-refused-requires-2 : tie.Need-refused-requires-2
-refused-requires-2 c κs = search needs
+told-requires-2 : tie.Need-told-requires-2
+told-requires-2 c κs = search needs
 
 returns-2 : tie.Need-returns-2
 returns-2 c =
@@ -35,7 +35,7 @@ returns-2 c =
     let a = d .before .args in
     let r : Answer = d .decode .result in
     told-short (map placeOf (recordsIn (r .records))) (a .places .now) (r .records .count)
-    (sym (places-count (r .records) (count-full (a .esr) r (d .decode .ensures)))) (c .refused2 .result) (c .before .if2 .taken) (c .refused2 .ensures)
+    (sym (places-count (r .records) (count-full (a .esr) r (d .decode .ensures)))) (c .told2 .result) (c .before .if2 .taken) (c .told2 .ensures)
     ∙ decode-read (a .esr) r (d .decode .ensures) (a .places .now) (n .number .result) (n .number .ensures) (c .before .before .before .if1 .left)
 
 put-records-requires : tie.Need-put-records-requires
@@ -47,8 +47,8 @@ put-records-requires c κs =
       c .before .if2 .left,
     )
 
-accepted-requires : tie.Need-accepted-requires
-accepted-requires c κs = search needs
+told-requires-3 : tie.Need-told-requires-3
+told-requires-3 c κs = search needs
 
 same-length : tie.Need-same-length
 same-length c = search needs
@@ -62,8 +62,8 @@ returns-3 c =
     let a = d .before .args in
     let r : Answer = d .decode .result in
     told-filled (map placeOf (recordsIn (r .records))) (a .places .now) (r .records .count)
-    (sym (places-count (r .records) (count-full (a .esr) r (d .decode .ensures)))) (c .accepted .result) (p .put-records .last .1 .0)
-    (i .if2 .left) (c .accepted .ensures) (p .put-records .ensures)
+    (sym (places-count (r .records) (count-full (a .esr) r (d .decode .ensures)))) (c .told3 .result) (p .put-records .last .1 .0)
+    (i .if2 .left) (c .told3 .ensures) (p .put-records .ensures)
     ∙ decode-read (a .esr) r (d .decode .ensures) (a .places .now) (n .number .result) (n .number .ensures) (i .before .before .if1 .left)
 
 pub esr-decode-spec : {M : Type 1} → statement M
@@ -72,11 +72,11 @@ esr-decode-spec =
     (tie.spec
     decode-requires
     number-requires
-    refused-requires
+    told-requires
     returns
-    refused-requires-2
+    told-requires-2
     returns-2
     put-records-requires
-    accepted-requires
+    told-requires-3
     same-length
     returns-3)

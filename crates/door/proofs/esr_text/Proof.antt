@@ -11,21 +11,21 @@ length-of-requires c κs = search needs
 cast-length : tie.Need-cast-length
 cast-length c = search needs
 
-refused-requires : tie.Need-refused-requires
-refused-requires c κs = search needs
+told-requires : tie.Need-told-requires
+told-requires c κs = search needs
 
 returns : tie.Need-returns
 returns c =
     let l = c .before .before in
     let a = l .before .before .args in
-    told-short (bytesAt (a .code)) (a .buf .now) (l .length-of .result) (l .length-of .ensures) (c .refused .result) (c .before .if1 .taken)
-    (c .refused .ensures)
+    told-short (bytesAt (a .code)) (a .buf .now) (l .length-of .result) (l .length-of .ensures) (c .told .result) (c .before .if1 .taken)
+    (c .told .ensures)
 
 put-text-requires : tie.Need-put-text-requires
 put-text-requires c κs = search needs
 
-accepted-requires : tie.Need-accepted-requires
-accepted-requires c κs = search needs
+told-requires-2 : tie.Need-told-requires-2
+told-requires-2 c κs = search needs
 
 same-length : tie.Need-same-length
 same-length c = search needs
@@ -36,8 +36,8 @@ returns-2 c =
     let i = p .before .before in
     let l = i .before in
     let a = l .before .before .args in
-    told-filled (bytesAt (a .code)) (a .buf .now) (l .length-of .result) (l .length-of .ensures) (c .accepted .result)
-    (p .put-text .last .1 .0) (i .if1 .left) (c .accepted .ensures) (p .put-text .ensures)
+    told-filled (bytesAt (a .code)) (a .buf .now) (l .length-of .result) (l .length-of .ensures) (c .told2 .result)
+    (p .put-text .last .1 .0) (i .if1 .left) (c .told2 .ensures) (p .put-text .ensures)
 
 pub esr-text-spec : {M : Type 1} → statement M
 esr-text-spec =
@@ -45,9 +45,9 @@ esr-text-spec =
     (tie.spec
     length-of-requires
     cast-length
-    refused-requires
+    told-requires
     returns
     put-text-requires
-    accepted-requires
+    told-requires-2
     same-length
     returns-2)

@@ -3,8 +3,8 @@ use mathlib.Core.Path.{ap₂}
 use Prim.Native.Nat.{ℕ}
 use Rattle.door.specs.declared.Filled.{Filled}
 use borrow.Author.Needs.{needs}
-use Rattle.door.proofs.refused.Statement.{statement}
-use Rattle.door.proofs.refused.Tie as tie
+use Rattle.door.proofs.told.Statement.{statement}
+use Rattle.door.proofs.told.Tie as tie
 
 carries-requires : tie.Need-carries-requires
 carries-requires c κs = search needs
@@ -14,7 +14,7 @@ number-requires c κs = search needs
 
 returns : tie.Need-returns
 returns c =
-    ap₂ (λ (carried number : ℕ). record { carried = carried; count = 0; refusal = number }) (c .before .carries .ensures) (c .number .ensures)
+    ap₂ (λ (carried number : ℕ). record { carried = carried; count = c .before .before .args .count; refusal = number }) (c .before .carries .ensures) (c .number .ensures)
 
-pub refused-spec : {M : Type 1} → statement M
-refused-spec = tie.close (tie.spec carries-requires number-requires returns)
+pub told-spec : {M : Type 1} → statement M
+told-spec = tie.close (tie.spec carries-requires number-requires returns)
