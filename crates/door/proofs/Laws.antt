@@ -7,8 +7,8 @@ use mathlib.Core.Path.{_≡_, refl, sym, ap, ap₂, _∙_}
 use native.Mathlib.Numerals.{add-one}
 use native.Mathlib.Omega.{arith}
 use lib.Dec.{eqb}
-use lib.ListN.{length, getD, take, drop, set, length-append, length-map, List·getD-map}
-use lib.Seq.{take-suc, drop-cons, set-at, length-take-le, length-front, take-length, getD-take}
+use lib.ListN.{length, getD, take, drop, set, length-map, List·getD-map}
+use lib.Seq.{take-suc, drop-cons, set-at, length-take-le, take-length, getD-take}
 use borrow.Author.Tests.{eq-eqb, ne-eqb, le-leb, lt-leb}
 use Rattle.esr.specs.Decode.{topRows, reserved, empty, layoutNumber, passed, refused, accepted, failureFor, recordsFor, tableAnswer, classAnswer, answerOf}
 use Rattle.esr.specs.declared.Answer.{Answer}
@@ -26,7 +26,7 @@ use Rattle.records.specs.declared.Records.{Records}
 use Rattle.records.specs.declared.Refusal.{Refusal}
 use Rattle.records.specs.declared.Refusal.the-variants.{None, InvalidEc, ShortBuffer}
 use Rattle.door.specs.Answers.{toldAs}
-use Rattle.door.specs.Buffers.{front, refusing, filling}
+use Rattle.door.specs.Buffers.{front, filling}
 use Rattle.door.specs.Places.{placeOf, recordsIn, decoding}
 use Rattle.door.specs.declared.Filled.{Filled}
 
@@ -37,10 +37,6 @@ abbrev pub soFar : {A : Type 0} → List A → List A → ℕ → List A
 soFar content before i = take i content ++ drop i before
 
 module _ {A : Type 0} (content before : List A) (fits : length content ≤ length before) where
-  pub so-far-length : (i : ℕ) → i ≤ length content → length (soFar content before i) ≡ length before
-  so-far-length i h =
-      length-front before (take i content) i (length-take-le i content h ∙ sym (length-take-le i before (omega arith)))
-
   pub so-far-more : (d : A) (i : ℕ) (x : A) → i < length content → x ≡ getD content i d
       → set (soFar content before i) i x ≡ soFar content before (i + 1)
   so-far-more d i x less is =

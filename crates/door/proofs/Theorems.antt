@@ -1,13 +1,13 @@
 -- What the promises come to for a caller: a refusal leaves the array as it was; a place gives its record's fields back; the body is where
 -- the answer says. By the cases of each definition, and a field of a place as a digit of its word.
-use Prim.Native.Nat.{ℕ, _+_, _*_, _^_, _≤_, _<_}
+use Prim.Native.Nat.{ℕ, _^_, _<_}
 use mathlib.Core.Bool.{Bool, true, false, cond}
-use mathlib.Core.List.{List, [], _∷_, map}
-use mathlib.Core.Path.{_≡_, refl, sym, ap, ap₂, _∙_}
+use mathlib.Core.List.{List, map}
+use mathlib.Core.Path.{_≡_, refl, sym, ap, _∙_}
 use native.Mathlib.Omega.{arith}
-use lib.Dec.{eqb, leb}
+use lib.Dec.{leb}
 use lib.ListN.{length, getD, take, drop, length-drop}
-use lib.Seq.{drop-append-seam, length-take-le}
+use lib.Seq.{length-take-le}
 use borrow.Author.Tests.{eqb-true, eqb-false}
 use Rattle.entry.proofs.Laws.{facts, body-sound, body-refused}
 use Rattle.entry.specs.Entries.{judged, sound, bodyOf}
@@ -15,8 +15,8 @@ use Rattle.esr.specs.Decode.{passed, answerOf}
 use Rattle.records.specs.Bits.{fieldOf}
 use Rattle.records.specs.Refusals.{refusalNumber}
 use Rattle.records.specs.declared.Record.{Record}
-use Rattle.door.specs.Answers.{bodyStart, entryTold}
-use Rattle.door.specs.Buffers.{front, refusing, filling}
+use Rattle.door.specs.Answers.{entryTold}
+use Rattle.door.specs.Buffers.{filling}
 use Rattle.door.specs.Places.{placeOf, recordsIn, decoding}
 use Rattle.door.specs.declared.Filled.{Filled}
 

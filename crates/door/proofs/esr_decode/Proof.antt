@@ -1,6 +1,6 @@
 -- A refusal of the value comes first; then the room is held against the count of its records, which are put where they fit.
-use mathlib.Core.List.{List, map}
-use mathlib.Core.Path.{_≡_, sym, _∙_}
+use mathlib.Core.List.{map}
+use mathlib.Core.Path.{sym, _∙_}
 use Rattle.esr.specs.declared.Answer.{Answer}
 use Rattle.door.specs.Places.{placeOf, recordsIn}
 use Rattle.door.proofs.Laws.{told-short, told-filled, count-few, count-full, decode-refused, decode-read, places-count}

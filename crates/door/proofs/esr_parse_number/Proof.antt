@@ -1,6 +1,4 @@
 -- The number's own value, and its refusal in numbers.
-use mathlib.Core.Path.{ap₂}
-use Rattle.number.specs.declared.Number.{Number}
 use Rattle.door.specs.Answers.{numberTold}
 use borrow.Author.Needs.{needs}
 use Rattle.door.proofs.esr_parse_number.Statement.{statement}

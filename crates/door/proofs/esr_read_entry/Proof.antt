@@ -1,11 +1,5 @@
 -- The entry's own numbers, its refusal in numbers, and the length of its body; it is refused just where it is judged so.
-use mathlib.Core.Bool.{cond}
-use mathlib.Core.Path.{_≡_, sym, ap, _∙_}
-use Prim.Native.Nat.{ℕ}
-use lib.Dec.{eqb}
 use Rattle.entry.proofs.Theorems.{refusal-is}
-use Rattle.records.specs.Refusals.{refusalNumber}
-use Rattle.records.specs.declared.Refusal.{Refusal}
 use Rattle.door.specs.Answers.{entryTold}
 use borrow.Author.Needs.{needs}
 use Rattle.door.proofs.esr_read_entry.Statement.{statement}

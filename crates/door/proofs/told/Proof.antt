@@ -1,7 +1,6 @@
 -- The number and what is carried are those of the refusal.
 use mathlib.Core.Path.{ap₂}
 use Prim.Native.Nat.{ℕ}
-use Rattle.door.specs.declared.Filled.{Filled}
 use borrow.Author.Needs.{needs}
 use Rattle.door.proofs.told.Statement.{statement}
 use Rattle.door.proofs.told.Tie as tie
