@@ -2,7 +2,7 @@
 -- the answer says. By the cases of each definition, and a field of a place as a digit of its word.
 use Prim.Native.Nat.{ℕ, _^_, _<_}
 use mathlib.Core.Bool.{Bool, true, false, cond}
-use mathlib.Core.List.{List, map}
+use mathlib.Core.List.{List, _++_}
 use mathlib.Core.Path.{_≡_, refl, sym, ap, _∙_}
 use native.Mathlib.Omega.{arith}
 use lib.Dec.{leb}
@@ -12,12 +12,15 @@ use borrow.Author.Tests.{eqb-true, eqb-false}
 use Rattle.entry.proofs.Laws.{facts, body-sound, body-refused}
 use Rattle.entry.specs.Entries.{judged, sound, bodyOf}
 use Rattle.esr.specs.Decode.{passed, answerOf}
+use Rattle.listing.specs.Outcomes.{Outcome, refused, text, refusal, answered, left}
+use Rattle.listing.specs.declared.Written.{Written}
 use Rattle.records.specs.Bits.{fieldOf}
 use Rattle.records.specs.Refusals.{refusalNumber}
 use Rattle.records.specs.declared.Record.{Record}
-use Rattle.door.specs.Answers.{entryTold}
-use Rattle.door.specs.Buffers.{filling}
-use Rattle.door.specs.Places.{placeOf, recordsIn, decoding}
+use Rattle.records.specs.declared.Refusal.the-variants.{None, ShortBuffer}
+use Rattle.door.specs.Answers.{toldAs, entryTold}
+use Rattle.door.specs.Buffers.{filling, telling}
+use Rattle.door.specs.Places.{placeOf, placesOf, decoding}
 use Rattle.door.specs.declared.Filled.{Filled}
 
 -- A caller's array.
@@ -37,7 +40,18 @@ text-kept content before = by-test (leb (length content) (length before)) (recor
 pub decode-kept : (esr : ℕ) (before : List (List ℕ)) → Kept before (decoding esr before)
 unfolding decoding
 decode-kept esr before =
-    by-test (passed (answerOf esr .refusal)) (text-kept (map placeOf (recordsIn (answerOf esr .records))) before) (record { kept = λ h. refl })
+    by-test (passed (answerOf esr .refusal)) (text-kept (placesOf (answerOf esr .records)) before) (record { kept = λ h. refl })
+
+pub told-kept : (o : Outcome) (before : List ℕ) → Kept before (telling o before)
+unfolding telling answered left
+told-kept (refused f) before = record { kept = λ h. refl }
+told-kept (text t) before = by-room (leb (length t) (length before))
+  where
+    by-room : (b : Bool)
+        → let w : Written = cond b (record { refusal = None; bytes = length t }) (refusal (ShortBuffer (length t))) in
+        Kept before (toldAs (w .refusal) (w .bytes), cond b (t ++ drop (length t) before) before)
+    by-room true = record { kept = λ h. absurd (h refl) }
+    by-room false = record { kept = λ h. refl }
 
 -- A place.
 

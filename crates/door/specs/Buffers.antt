@@ -1,8 +1,10 @@
 -- A caller's array, of bytes or of places: "Accepted text fills the front of the buffer; the rest stays", and a refusal's buffer is untouched.
+use Prim.Native.Nat.{ℕ}
 use mathlib.Core.Bool.{cond}
 use mathlib.Core.List.{List, _++_}
 use lib.Dec.{leb}
 use lib.ListN.{length, drop}
+use Rattle.listing.specs.Outcomes.{Outcome, answered, left}
 use Rattle.records.specs.declared.Refusal.{Refusal}
 use Rattle.records.specs.declared.Refusal.the-variants.{None, ShortBuffer}
 use Rattle.door.specs.Answers.{toldAs}
@@ -20,3 +22,7 @@ filling content before =
     cond (leb (length content) (length before))
     (toldAs None (length content), front content before)
     (refusing (ShortBuffer (length content)) before)
+
+-- a text of the crate `listing`, or its refusal: its own answer in numbers, and the buffer as it leaves it
+unfoldable pub telling : Outcome → List ℕ → Filled × List ℕ
+telling o before = (toldAs (answered o before .refusal) (answered o before .bytes), left o before)

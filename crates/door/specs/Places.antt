@@ -16,13 +16,13 @@ placeOf x =
     (x .name + x .long * 2 ^ 16 + x .text * 2 ^ 32 + x .start * 2 ^ 48 + x .width * 2 ^ 56) ∷
     []
 
--- the records that a set holds, in order
-abbrev pub recordsIn : Records → List Record
-recordsIn s = take (s .count) (s .items)
+-- the places of the records that a set counts, in order
+abbrev pub placesOf : Records → List (List ℕ)
+placesOf s = map placeOf (take (s .count) (s .items))
 
 -- a refusal of the value comes before 11
 unfoldable pub decoding : ℕ → List (List ℕ) → Filled × List (List ℕ)
 decoding esr before =
     cond (passed (answerOf esr .refusal))
-    (filling (map placeOf (recordsIn (answerOf esr .records))) before)
+    (filling (placesOf (answerOf esr .records)) before)
     (refusing (answerOf esr .refusal) before)

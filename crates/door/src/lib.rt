@@ -3,16 +3,16 @@
 ghost use Prim.Native.Nat.{_≤_};
 ghost use Rattle.door.specs.Answers.{toldAs};
 ghost use Rattle.door.specs.Buffers.{front};
-ghost use Rattle.door.specs.Places.{placeOf, recordsIn};
-ghost use Rattle.door.specs.Promises.{DecodedInto, EntryTold, NumberTold, TextPut};
+ghost use Rattle.door.specs.Places.{placeOf, placesOf};
+ghost use Rattle.door.specs.Promises.{BinaryPut, DecodedInto, EntryTold, LinePut, ListingPut, MessagePut, NumberTold, TextPut, ValuePut};
 ghost use Rattle.records.specs.Refusals.{refusalNumber};
 ghost use Rattle.records.specs.Sets.{setRoom};
 ghost use Rattle.texts.specs.Pool.{bytesAt};
 ghost use lib.Dec.{eqb};
 ghost use lib.ListN.{length};
 ghost use mathlib.Core.Bool.{cond};
-ghost use mathlib.Core.List.{map};
 ghost use mathlib.Core.Path.{_≡_};
+use listing::Written;
 use records::Record;
 use records::Records;
 use records::Refusal;
@@ -56,6 +56,14 @@ fn told(refusal: Refusal, count: usize) -> Filled
     }
 }
 
+// What a function of `listing` wrote, or refused.
+fn told_text(written: Written) -> Filled
+    ensures { λ r. ⌜ r ≡ toldAs (written .refusal) (written .bytes) ⌝ }
+{
+    let refusal = written.refusal;
+    told(refusal, written.bytes)
+}
+
 // A record as two words, the second with all but the value: from low bits to high, as its fields lie in a little-endian machine.
 fn words(item: Record) -> [u64; 2]
     ensures { λ r. ⌜ r ≡ placeOf item ⌝ }
@@ -69,8 +77,8 @@ fn words(item: Record) -> [u64; 2]
 }
 
 fn put_records(records: Records, places: &mut [[u64; 2]])
-    requires { ⌜ (records .count ≤ setRoom) × (length (recordsIn records) ≡ records .count) × (records .count ≤ length (now places)) ⌝ }
-    ensures { λ _. ⌜ now (places .exit) ≡ front (map placeOf (recordsIn records)) (now (places .entry)) ⌝ }
+    requires { ⌜ (records .count ≤ setRoom) × (records .count ≤ length (now places)) ⌝ }
+    ensures { λ _. ⌜ (length (placesOf records) ≡ records .count) × (now (places .exit) ≡ front (placesOf records) (now (places .entry))) ⌝ }
 {
     let mut i: usize = 0;
     while i < records.count {
@@ -89,12 +97,11 @@ pub extern "C" fn esr_decode(esr: u64, places: &mut [[u64; 2]]) -> Filled
     if refusal.number() != 0 {
         return told(refusal, 0);
     }
-    let records = answer.records;
-    let count = records.count;
+    let count = answer.records.count;
     if places.len() < count {
         return told(Refusal::ShortBuffer(count as u64), 0);
     }
-    put_records(records, places);
+    put_records(answer.records, places);
     told(Refusal::None, count)
 }
 
@@ -122,6 +129,41 @@ pub extern "C" fn esr_text(code: u16, buf: &mut [u8]) -> Filled
     }
     put_text(code, buf);
     told(Refusal::None, length)
+}
+
+#[no_mangle]
+pub extern "C" fn esr_value_string(width: u64, value: u64, buf: &mut [u8]) -> Filled
+    ensures { λ r. ⌜ ValuePut (width, value, now (buf .entry)) (r, now (buf .exit)) ⌝ }
+{
+    told_text(listing::value_string(width, value, buf))
+}
+
+#[no_mangle]
+pub extern "C" fn esr_value_binary_string(width: u64, value: u64, buf: &mut [u8]) -> Filled
+    ensures { λ r. ⌜ BinaryPut (width, value, now (buf .entry)) (r, now (buf .exit)) ⌝ }
+{
+    told_text(listing::value_binary_string(width, value, buf))
+}
+
+#[no_mangle]
+pub extern "C" fn esr_message(number: u64, carried: u64, buf: &mut [u8]) -> Filled
+    ensures { λ r. ⌜ MessagePut (number, carried, now (buf .entry)) (r, now (buf .exit)) ⌝ }
+{
+    told_text(listing::message(number, carried, buf))
+}
+
+#[no_mangle]
+pub extern "C" fn esr_record_line(esr: u64, index: usize, buf: &mut [u8]) -> Filled
+    ensures { λ r. ⌜ LinePut (esr, index, now (buf .entry)) (r, now (buf .exit)) ⌝ }
+{
+    told_text(listing::record_line(esr, index, buf))
+}
+
+#[no_mangle]
+pub extern "C" fn esr_listing(esr: u64, buf: &mut [u8]) -> Filled
+    ensures { λ r. ⌜ ListingPut (esr, now (buf .entry)) (r, now (buf .exit)) ⌝ }
+{
+    told_text(listing::listing(esr, buf))
 }
 
 #[no_mangle]

@@ -1,12 +1,13 @@
 -- The invariant: the places passed hold the records, and the others what they held at entry.
 use Prim.Native.Nat.{ℕ, _-_, _≤_}
-use mathlib.Core.List.{List, map}
+use mathlib.Core.List.{List}
 use mathlib.Core.Path.{_≡_, refl, ap, _∙_}
 use native.Mathlib.Omega.{arith}
 use lib.ListN.{length, set, length-set}
-use Rattle.records.specs.Sets.{noRecord}
+use Rattle.records.proofs.Laws.{long-as}
+use Rattle.records.specs.Sets.{setRoom, noRecord}
 use Rattle.records.specs.declared.Records.{Records}
-use Rattle.door.specs.Places.{placeOf, recordsIn}
+use Rattle.door.specs.Places.{placeOf, placesOf}
 use Rattle.door.proofs.Laws.{soFar, so-far-more, so-far-done, place-at, places-count}
 use borrow.Author.Needs.{needs}
 use Rattle.door.proofs.put_records.Statement.{statement}
@@ -14,7 +15,7 @@ use Rattle.door.proofs.put_records.Tie as tie
 
 abbrev Inv-loop : tie.InvT-loop
 Inv-loop places₀ records i₀ places i =
-    (i ≤ records .count) × (length places ≡ length places₀) × (places ≡ soFar (map placeOf (recordsIn records)) places₀ i)
+    (i ≤ records .count) × (length places ≡ length places₀) × (places ≡ soFar (placesOf records) places₀ i)
 
 abbrev μ-loop : tie.MeasureT-loop
 μ-loop places₀ records i₀ places i = records .count - i
@@ -35,7 +36,7 @@ mul-t6 : tie.Need-mul-t6 Inv-loop μ-loop
 mul-t6 c = omega (arith, c .before .before .before .before .pre .0)
 
 slice-set-from-places : tie.Need-slice-set-from-places Inv-loop μ-loop
-slice-set-from-places c = omega (arith, c .before .before .before .before .pre .2)
+slice-set-from-places c = omega (arith, c .before .before .before .before .pre .1)
 
 add-i : tie.Need-add-i Inv-loop μ-loop
 add-i c = omega (arith, c .before .before .before .before .pre .0)
@@ -49,11 +50,12 @@ loop-again c =
     let start = c .before .before .before .before in
     let s : Records = start .args .t1 in
     let places : List (List ℕ) = start .args .places .now in
-    let n : length (map placeOf (recordsIn s)) ≡ s .count = places-count s (start .pre .1) in (
+    let long : length (s .items) ≡ setRoom = search (needs, long-as) in
+    let n : length (placesOf s) ≡ s .count = places-count s long (start .pre .0) in (
       omega arith,
       length-set (l .places) (l .i) (c .words .result) ∙ l .inv .1,
       ap (λ (p : List (List ℕ)). set p (l .i) (c .words .result)) (l .inv .2)
-          ∙ so-far-more (map placeOf (recordsIn s)) places (omega (arith, start .pre .2)) (placeOf noRecord) (l .i) (c .words .result) (omega arith)
+          ∙ so-far-more (placesOf s) places (omega (arith, start .pre .1)) (placeOf noRecord) (l .i) (c .words .result) (omega arith)
           (c .words .ensures ∙ place-at s (l .i) (omega arith)),
     )
 
@@ -65,8 +67,9 @@ returns c =
     let l = c .before .loop in
     let start = c .before .before in
     let s : Records = start .args .t1 in
-    let n : length (map placeOf (recordsIn s)) ≡ s .count = places-count s (start .pre .1) in
-    l .inv .2 ∙ so-far-done (map placeOf (recordsIn s)) (start .args .places .now) (omega (arith, start .pre .2)) (l .i) (omega arith)
+    let long : length (s .items) ≡ setRoom = search (needs, long-as) in
+    let n : length (placesOf s) ≡ s .count = places-count s long (start .pre .0) in
+    (n, l .inv .2 ∙ so-far-done (placesOf s) (start .args .places .now) (omega (arith, start .pre .1)) (l .i) (omega arith))
 
 pub put-records-spec : {M : Type 1} → statement M
 put-records-spec =

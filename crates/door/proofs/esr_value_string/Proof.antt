@@ -1,0 +1,20 @@
+-- The answer of `listing::value_string`, told; the buffer is what it left.
+use Rattle.door.proofs.Laws.{told-asked}
+use borrow.Author.Needs.{needs}
+use Rattle.door.proofs.esr_value_string.Statement.{statement}
+use Rattle.door.proofs.esr_value_string.Tie as tie
+
+value-string-requires : tie.Need-value-string-requires
+value-string-requires c κs = search needs
+
+told-text-requires : tie.Need-told-text-requires
+told-text-requires c κs = search needs
+
+same-length : tie.Need-same-length
+same-length c = search needs
+
+returns : tie.Need-returns
+returns c = told-asked _ _ (c .before .before .before .value-string .ensures) (c .told-text .ensures)
+
+pub esr-value-string-spec : {M : Type 1} → statement M
+esr-value-string-spec = tie.close (tie.spec value-string-requires told-text-requires same-length returns)
