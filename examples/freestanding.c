@@ -1,9 +1,10 @@
-/* What stands around a program here in place of a unit, with no C library: its start and end, put() to standard output, and memcpy, the one
-   function that the archive asks for. x86-64 Linux. */
+/* What stands around a program here in place of a unit, with no C library: its start and end, put() to standard output, and memcpy and
+   memset, the two functions that the archive asks for. x86-64 Linux. */
 #include "put.h"
 
 int main(void);
 void *memcpy(void *restrict to, const void *restrict from, size_t length);
+void *memset(void *to, int byte, size_t length);
 void begin(void);
 
 __asm__(".globl _start\n_start:\n\txor %ebp, %ebp\n\tand $-16, %rsp\n\tcall begin\n");
@@ -35,6 +36,12 @@ void put(const uint8_t *bytes, size_t length) {
 void *memcpy(void *restrict to, const void *restrict from, size_t length) {
     void *start = to;
     __asm__ volatile("rep movsb" : "+D"(to), "+S"(from), "+c"(length) : : "memory");
+    return start;
+}
+
+void *memset(void *to, int byte, size_t length) {
+    void *start = to;
+    __asm__ volatile("rep stosb" : "+D"(to), "+c"(length) : "a"(byte) : "memory");
     return start;
 }
 

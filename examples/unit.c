@@ -1,5 +1,5 @@
-/* A boot stage of the unit: reads the entry at the front of a flash block and writes what it says, or why it is not believed.
-   What a unit has to bring: put() and memcpy, as freestanding.c has them for Linux. */
+/* A boot stage of the unit: reads the entry at the front of a flash block and writes its listing, or why it is not believed.
+   What a unit has to bring: put(), memcpy and memset, as freestanding.c has them for Linux. */
 #include "esr.h"
 #include "put.h"
 
@@ -11,41 +11,27 @@ static const uint8_t torn[16] = {0x00, 0x0B, 0x01, 0x00, 0x08, 0x00, 0x00, 0x00,
 static const uint8_t erased[16] = {0xFF, 0xFF, 0xFF, 0xFF, 0xFF, 0xFF, 0xFF, 0xFF, 0xFF, 0xFF, 0xFF, 0xFF, 0xFF, 0xFF, 0xFF, 0xFF};
 
 /* What a unit needs of memory lies here, and is known when it is linked. */
-static esr_record records[ESR_RECORDS_MAX];
-static uint8_t text[ESR_TEXT_MAX];
+static uint8_t text[ESR_LISTING_MAX];
 
-static void say_code(uint16_t code) {
-    put(text, esr_text(code, text, sizeof text).count);
-}
-
+/* The message of the refusal, where it has one. */
 static void say_refusal(uint8_t refusal, uint64_t carried) {
+    esr_filled message = esr_message(refusal, carried, text, sizeof text);
     say("refused ");
     say_number(refusal, 10);
-    say(" carried=0x");
-    say_number(carried, 16);
+    if (message.refusal == ESR_ACCEPTED) {
+        say(": ");
+        put(text, message.count);
+    }
     say("\n");
 }
 
-static void say_records(uint64_t esr) {
-    esr_filled filled = esr_decode(esr, records, ESR_RECORDS_MAX);
-    if (filled.refusal != ESR_ACCEPTED) {
-        say_refusal(filled.refusal, filled.carried);
+static void say_listing(uint64_t esr) {
+    esr_filled listing = esr_listing(esr, text, sizeof text);
+    if (listing.refusal != ESR_ACCEPTED) {
+        say_refusal(listing.refusal, listing.carried);
         return;
     }
-    for (size_t i = 0; i < filled.count; i++) {
-        const char *indent = i < 5 ? "" : "  ";
-        say(indent);
-        say_code(records[i].name);
-        say(": 0x");
-        say_number(records[i].value, 16);
-        say("\n");
-        if (records[i].text != 0) {
-            say(indent);
-            say("# ");
-            say_code(records[i].text);
-            say("\n");
-        }
-    }
+    put(text, listing.count);
 }
 
 static void boot(const uint8_t *block, size_t length) {
@@ -64,7 +50,7 @@ static void boot(const uint8_t *block, size_t length) {
         say_number(block[entry.body + i] % 16, 16);
     }
     say("\n");
-    say_records(entry.esr);
+    say_listing(entry.esr);
 }
 
 int main(void) {

@@ -1,8 +1,8 @@
 /* Arm exception syndromes (ESR_ELx), decoded: the C functions of libdoor.a.
 
-   Every function takes any value, bytes and lengths. It never allocates, keeps no state, and calls nothing but memcpy. Each is proved to
-   answer what its promise says (crates/door/specs/Promises.antt); what is said here is that promise in words. The layout of the structs
-   below is not proved: the assertions at the end and tools/door hold it against the archive.
+   Every function takes any value, bytes and lengths. It never allocates, keeps no state, and calls nothing but memcpy and memset.
+   Each is proved to answer what its promise says (crates/door/specs/Promises.antt); what is said here is that promise in words. The layout
+   of the structs below is not proved: the assertions at the end and tools/door hold it against the archive.
 
    What the caller owes: a pointer that is not null, also where the length is 0, to as many elements as the length says, which nothing else
    writes during the call. C99. The archive is for little-endian x86-64. */
@@ -43,6 +43,9 @@ enum {
 
 /* As many bytes as any name or text has. */
 #define ESR_TEXT_MAX 255
+
+/* As many bytes as any listing has. It was tried on every class and ISS and is not proved; a longer one would be refused by 11, and not cut. */
+#define ESR_LISTING_MAX 950
 
 /* A field of a value: bits start .. start + width, shifted down. name, long_name and text are codes, for esr_text; the code 0 is none. */
 typedef struct esr_record {
@@ -87,6 +90,29 @@ esr_filled esr_decode(uint64_t esr, esr_record *places, size_t length);
    buffer, carrying the bytes needed; the buffer then stays as it was. Accepted, the bytes behind the text stay. A code of no text gives
    0 bytes. */
 esr_filled esr_text(uint16_t code, uint8_t *buffer, size_t length);
+
+/* The five functions below write a text into the front of the buffer, without a 0 behind it: count is its bytes, and the bytes behind it stay
+   as they were. A text longer than the buffer is refused by 11, which carries the bytes needed (so that a length of 0 asks for them); every
+   other refusal comes before 11. A refusal leaves the buffer as it was. */
+
+/* The listing of a value: for each record its line, then "# " and its text if it has one, each ended by one line feed; ISS's own are indented
+   two spaces, text lines too. A value that esr_decode refuses is refused by the same number, carrying the same. */
+esr_filled esr_listing(uint64_t esr, uint8_t *buffer, size_t length);
+
+/* The line of one record of a value, RES0 at index 0 and ISS's own records from 5 on: name, ": " and the value; width 1 prints true or false,
+   wider "0x" and ceil(width/4) digits, small letters, a space, "0b" and width digits. No indent, text or line feed. A value that esr_decode
+   refuses is refused by the same number; then an index not below the count of records by 13, which carries the count. */
+esr_filled esr_record_line(uint64_t esr, size_t index, uint8_t *buffer, size_t length);
+
+/* A field's value: width 1 prints true or false, wider "0x" and ceil(width/4) digits, small letters. 12 where width is not 1 to 64 or value not
+   below 2^width. */
+esr_filled esr_value_string(uint64_t width, uint64_t value, uint8_t *buffer, size_t length);
+
+/* A field's value as "0b" and width digits, for width 1 too. 12 as above. */
+esr_filled esr_value_binary_string(uint64_t width, uint64_t value, uint8_t *buffer, size_t length);
+
+/* The message of a refusal, by its number and what it carries, in unpadded hex. 12 for any number but 1 to 7. */
+esr_filled esr_message(uint64_t number, uint64_t carried, uint8_t *buffer, size_t length);
 
 /* Reads a number: an exact "0x" selects base 16 (letters of either case), else 10. Then one "+" may stand if a character follows. Characters
    go left to right: not a digit is 9; a digit that takes the result past 2^64-1 is 10; the first offender answers. No characters after any

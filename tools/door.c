@@ -6,7 +6,8 @@
 
 #define SENTINEL 0xA5
 #define ROOM (ESR_RECORDS_MAX + 13)
-#define BYTES (ESR_TEXT_MAX + 45)
+/* Much more than any text. */
+#define BYTES (4 * ESR_LISTING_MAX)
 
 static unsigned checks;
 static unsigned failures;
@@ -87,12 +88,65 @@ static void check_lengths(size_t index) {
     }
 }
 
+/* The functions that write a text, as one form: those that take one number leave the other. */
+typedef esr_filled (*writer)(uint64_t, uint64_t, uint8_t *, size_t);
+
+static esr_filled write_text(uint64_t code, uint64_t none, uint8_t *buffer, size_t length) {
+    (void)none;
+    return esr_text((uint16_t)code, buffer, length);
+}
+
+static esr_filled write_listing(uint64_t esr, uint64_t none, uint8_t *buffer, size_t length) {
+    (void)none;
+    return esr_listing(esr, buffer, length);
+}
+
+static esr_filled write_record_line(uint64_t esr, uint64_t index, uint8_t *buffer, size_t length) {
+    return esr_record_line(esr, (size_t)index, buffer, length);
+}
+
 static uint8_t text[BYTES];
 static uint8_t kept[BYTES];
 
-static int named(uint16_t code, const char *words) {
+static int says(writer write, uint64_t a, uint64_t b, const char *words) {
     size_t length = length_of(words);
-    return answers(esr_text(code, text, BYTES), ESR_ACCEPTED, 0, length) && same(text, (const uint8_t *)words, length);
+    return answers(write(a, b, text, BYTES), ESR_ACCEPTED, 0, length) && same(text, (const uint8_t *)words, length);
+}
+
+static int refuses_text(writer write, uint64_t a, uint64_t b, uint8_t refusal, uint64_t carried) {
+    int fact = 1;
+    for (size_t length = 0; length <= BYTES; length += BYTES / 8) {
+        mark(text, BYTES);
+        fact = fact && answers(write(a, b, text, length), refusal, carried, 0) && marked(text, 0, BYTES);
+    }
+    return fact;
+}
+
+/* A text in buffers of no bytes, one short, exact, one more and `room`, which is much more; gives the bytes that it needs. */
+static size_t check_room(writer write, uint64_t a, uint64_t b, size_t room) {
+    mark(text, room);
+    esr_filled filled = write(a, b, text, 0);
+    size_t needed = filled.refusal == ESR_ACCEPTED ? 0 : (size_t)filled.carried;
+    HOLDS(needed < room);
+    HOLDS(answers(filled, needed == 0 ? ESR_ACCEPTED : ESR_SHORT_BUFFER, needed, 0));
+    HOLDS(marked(text, 0, room));
+    if (needed != 0) {
+        HOLDS(answers(write(a, b, text, needed - 1), ESR_SHORT_BUFFER, needed, 0));
+        HOLDS(marked(text, 0, room));
+    }
+    mark(kept, room);
+    HOLDS(answers(write(a, b, kept, room), ESR_ACCEPTED, 0, needed));
+    HOLDS(marked(kept, needed, room));
+    HOLDS(answers(write(a, b, text, needed), ESR_ACCEPTED, 0, needed));
+    HOLDS(same(text, kept, room));
+    mark(text, room);
+    HOLDS(answers(write(a, b, text, needed + 1), ESR_ACCEPTED, 0, needed));
+    HOLDS(same(text, kept, room));
+    return needed;
+}
+
+static int named(uint16_t code, const char *words) {
+    return says(write_text, code, 0, words);
 }
 
 static int is(size_t place, const char *name, const char *long_name, const char *words, unsigned start, unsigned width, uint64_t value) {
@@ -117,25 +171,100 @@ static void check_members(void) {
     HOLDS(is(6, "imm16", "Value of the immediate field", "", 0, 16, 0xCDEF));
 }
 
-static void check_text(uint16_t code) {
-    mark(text, BYTES);
-    esr_filled filled = esr_text(code, text, 0);
-    size_t needed = filled.refusal == ESR_ACCEPTED ? 0 : (size_t)filled.carried;
-    HOLDS(needed <= ESR_TEXT_MAX);
-    HOLDS(answers(filled, needed == 0 ? ESR_ACCEPTED : ESR_SHORT_BUFFER, needed, 0));
-    HOLDS(marked(text, 0, BYTES));
-    if (needed != 0) {
-        HOLDS(answers(esr_text(code, text, needed - 1), ESR_SHORT_BUFFER, needed, 0));
-        HOLDS(marked(text, 0, BYTES));
+static void check_texts(void) {
+    for (unsigned code = 0; code <= 0xFFFF; code++) {
+        HOLDS(check_room(write_text, code, 0, ESR_TEXT_MAX + 45) <= ESR_TEXT_MAX);
     }
-    mark(kept, BYTES);
-    HOLDS(answers(esr_text(code, kept, BYTES), ESR_ACCEPTED, 0, needed));
-    HOLDS(marked(kept, needed, BYTES));
-    HOLDS(answers(esr_text(code, text, needed), ESR_ACCEPTED, 0, needed));
-    HOLDS(same(text, kept, BYTES));
-    mark(text, BYTES);
-    HOLDS(answers(esr_text(code, text, needed + 1), ESR_ACCEPTED, 0, needed));
-    HOLDS(same(text, kept, BYTES));
+}
+
+static void check_value_strings(void) {
+    HOLDS(says(esr_value_string, 1, 0, "false"));
+    HOLDS(says(esr_value_string, 1, 1, "true"));
+    HOLDS(says(esr_value_string, 2, 3, "0x3"));
+    HOLDS(says(esr_value_string, 5, 0xA, "0x0a"));
+    HOLDS(says(esr_value_string, 64, 0x0123456789ABCDEF, "0x0123456789abcdef"));
+    HOLDS(says(esr_value_binary_string, 1, 0, "0b0"));
+    HOLDS(says(esr_value_binary_string, 1, 1, "0b1"));
+    HOLDS(says(esr_value_binary_string, 5, 0xA, "0b01010"));
+    static const writer both[] = {esr_value_string, esr_value_binary_string};
+    for (size_t i = 0; i < 2; i++) {
+        HOLDS(refuses_text(both[i], 0, 0, ESR_BAD_FIELD, 0));
+        HOLDS(refuses_text(both[i], 65, 0, ESR_BAD_FIELD, 0));
+        HOLDS(refuses_text(both[i], 0x100000001, 1, ESR_BAD_FIELD, 0));
+        for (uint64_t width = 1; width <= 64; width++) {
+            check_room(both[i], width, 0, BYTES);
+            check_room(both[i], width, 0xFFFFFFFFFFFFFFFF >> (64 - width), BYTES);
+            if (width < 64) {
+                HOLDS(refuses_text(both[i], width, (uint64_t)1 << width, ESR_BAD_FIELD, 0));
+            }
+        }
+    }
+}
+
+static void check_messages(void) {
+    HOLDS(says(esr_message, 1, 1, "Invalid ESR, res0 is 0x1"));
+    HOLDS(says(esr_message, 2, 0x3F, "Invalid EC 0x3f"));
+    HOLDS(says(esr_message, 3, 2, "Invalid DFSC or IFSC 0x2"));
+    HOLDS(says(esr_message, 4, 1, "Invalid SET 0x1"));
+    HOLDS(says(esr_message, 5, 4, "Invalid AET 0x4"));
+    HOLDS(says(esr_message, 6, 0, "Invalid AM 0x0"));
+    HOLDS(says(esr_message, 7, 0xFFFFFFFFFFFFFFFF, "Invalid ISS 0xffffffffffffffff for trapped LD64B or ST64B*"));
+    for (uint64_t number = 1; number <= 7; number++) {
+        check_room(esr_message, number, 0, BYTES);
+        check_room(esr_message, number, 0x0123456789ABCDEF, BYTES);
+    }
+    HOLDS(refuses_text(esr_message, 0, 0, ESR_BAD_FIELD, 0));
+    HOLDS(refuses_text(esr_message, 8, 0, ESR_BAD_FIELD, 0));
+    HOLDS(refuses_text(esr_message, 0x100000001, 1, ESR_BAD_FIELD, 0));
+}
+
+/* The value that 01 lists in full, a line to a record and its text's line behind it. */
+static const struct {
+    const char *line;
+    const char *rest;
+} listed[] = {
+    {"RES0: 0x0000000 0b000000000000000000000000000", "\n"},
+    {"ISS2: 0x00 0b00000", "\n"},
+    {"EC: 0x15 0b010101", "\n# SVC instruction execution in AArch64 state\n"},
+    {"IL: true", "\n# 32-bit instruction trapped\n"},
+    {"ISS: 0x0000001 0b0000000000000000000000001", "\n  "},
+    {"RES0: 0x000 0b000000000", "\n  "},
+    {"imm16: 0x0001 0b0000000000000001", "\n"},
+};
+
+static void check_listed(void) {
+    size_t records = sizeof listed / sizeof listed[0];
+    size_t at = 0;
+    esr_filled filled = esr_listing(0x56000001, kept, BYTES);
+    HOLDS(filled.refusal == ESR_ACCEPTED);
+    for (size_t i = 0; i < records; i++) {
+        const char *parts[] = {listed[i].line, listed[i].rest};
+        HOLDS(says(write_record_line, 0x56000001, i, listed[i].line));
+        for (size_t part = 0; part < 2; part++) {
+            size_t length = length_of(parts[part]);
+            HOLDS(same(kept + at, (const uint8_t *)parts[part], length));
+            at += length;
+        }
+    }
+    HOLDS(filled.count == at);
+    HOLDS(answers(esr_listing(0xBC048411, text, 0), ESR_SHORT_BUFFER, ESR_LISTING_MAX, 0));
+}
+
+static void check_listings(size_t index) {
+    uint64_t esr = values[index].esr;
+    size_t count = values[index].count;
+    if (values[index].refusal != ESR_ACCEPTED) {
+        HOLDS(refuses_text(write_listing, esr, 0, values[index].refusal, values[index].carried));
+        HOLDS(refuses_text(write_record_line, esr, 0, values[index].refusal, values[index].carried));
+        HOLDS(refuses_text(write_record_line, esr, ESR_RECORDS_MAX, values[index].refusal, values[index].carried));
+        return;
+    }
+    HOLDS(check_room(write_listing, esr, 0, BYTES) <= ESR_LISTING_MAX);
+    for (size_t i = 0; i < count; i++) {
+        check_room(write_record_line, esr, i, BYTES);
+    }
+    HOLDS(refuses_text(write_record_line, esr, count, ESR_BAD_INDEX, count));
+    HOLDS(refuses_text(write_record_line, esr, 0x100000000, ESR_BAD_INDEX, count));
 }
 
 static int reads(const char *words, uint8_t refusal, uint64_t value) {
@@ -192,6 +321,8 @@ static void check_entries(void) {
 
 static void *volatile sink;
 static uint64_t asked;
+static uint64_t beside;
+static writer writing;
 
 static void call_decode(void) {
     static esr_filled filled;
@@ -199,9 +330,9 @@ static void call_decode(void) {
     sink = &filled;
 }
 
-static void call_text(void) {
+static void call_writer(void) {
     static esr_filled filled;
-    filled = esr_text((uint16_t)asked, text, BYTES);
+    filled = writing(asked, beside, text, BYTES);
     sink = &filled;
 }
 
@@ -235,6 +366,7 @@ static void measure(const char *name, void (*call)(void), uint64_t (*value)(size
     size_t deepest = 0;
     for (size_t i = 0; i < count; i++) {
         asked = value(i);
+        beside = i % ESR_RECORDS_MAX;
         size_t used = stack_of(call);
         deepest = deepest < used ? used : deepest;
     }
@@ -243,6 +375,11 @@ static void measure(const char *name, void (*call)(void), uint64_t (*value)(size
     say(" ");
     say_number(deepest, 10);
     say("\n");
+}
+
+static void measure_writer(const char *name, writer write, uint64_t (*value)(size_t), size_t count) {
+    writing = write;
+    measure(name, call_writer, value, count);
 }
 
 /* Every class, with ISS at 0 and at some of the marked values' bits. */
@@ -258,11 +395,13 @@ int main(void) {
     size_t marked_values = sizeof values / sizeof values[0];
     for (size_t i = 0; i < marked_values; i++) {
         check_lengths(i);
+        check_listings(i);
     }
     check_members();
-    for (unsigned code = 0; code <= 0xFFFF; code++) {
-        check_text((uint16_t)code);
-    }
+    check_listed();
+    check_texts();
+    check_value_strings();
+    check_messages();
     check_numbers();
     check_entries();
     if (failures != 0) {
@@ -272,7 +411,12 @@ int main(void) {
     say_number(checks, 10);
     say("\n");
     measure("esr_decode", call_decode, syndrome, 64 * marked_values);
-    measure("esr_text", call_text, counted, 1024);
+    measure_writer("esr_text", write_text, counted, 1024);
+    measure_writer("esr_listing", write_listing, syndrome, 64 * marked_values);
+    measure_writer("esr_record_line", write_record_line, syndrome, 64 * marked_values);
+    measure_writer("esr_value_string", esr_value_string, counted, 66);
+    measure_writer("esr_value_binary_string", esr_value_binary_string, counted, 66);
+    measure_writer("esr_message", esr_message, counted, 9);
     measure("esr_parse_number", call_parse_number, counted, 19);
     measure("esr_read_entry", call_read_entry, counted, sizeof block + 1);
     return 0;
