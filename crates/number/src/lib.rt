@@ -1,12 +1,17 @@
 // Reads a number as Rust's library does: an optional "0x", an optional "+", then digits, the state after each handed on to the next.
+ghost use Prim.Native.Nat.{_*_, _+_, _-_, _<_, _^_, _≤_};
 ghost use Rattle.number.specs.Digits.{baseOf, digitOf};
-ghost use Rattle.number.specs.Numbers.{isHex, numberIn, stateOf, stepsOf, unsigned};
+ghost use Rattle.number.specs.Numbers.{isHex, numberFrom, numberIn, startOf, stateOf, stepsOf, unsigned};
 ghost use Rattle.number.specs.Promises.{Parsed, Started, Stepped};
+ghost use lib.Dec.{leb};
 ghost use mathlib.Core.Path.{_≡_};
 use records::Refusal;
 
 // The value of a character that is no digit: below neither base.
 const NO_DIGIT: u64 = 16;
+
+// A value that one digit more, of either base, does not take past 2^64-1: below 2^60.
+const ROOMY: u64 = 0xFFF_FFFF_FFFF_FFFF;
 
 // The value so far, the base, and the first refusal; a refused state has the value 0.
 pub struct NumberState {
@@ -31,11 +36,41 @@ fn digit_of(b: u8) -> u64
     ensures { λ r. ⌜ r ≡ digitOf b ⌝ }
 {
     match b {
-        b'0'..=b'9' => (b - b'0') as u64,
-        b'a'..=b'f' => 10 + (b - b'a') as u64,
-        b'A'..=b'F' => 10 + (b - b'A') as u64,
+        b'0' => 0,
+        b'1' => 1,
+        b'2' => 2,
+        b'3' => 3,
+        b'4' => 4,
+        b'5' => 5,
+        b'6' => 6,
+        b'7' => 7,
+        b'8' => 8,
+        b'9' => 9,
+        b'A' => 10,
+        b'B' => 11,
+        b'C' => 12,
+        b'D' => 13,
+        b'E' => 14,
+        b'F' => 15,
+        b'a' => 10,
+        b'b' => 11,
+        b'c' => 12,
+        b'd' => 13,
+        b'e' => 14,
+        b'f' => 15,
         _ => NO_DIGIT,
     }
+}
+
+// Whether a value with one digit more is below 2^64; only a large one is asked by a division, before there is a sum that could pass 64 bits.
+fn fits(value: u64, base: u64, digit: u64) -> bool
+    requires { ⌜ (0 < base) × (base ≤ 16) × (digit < base) ⌝ }
+    ensures { λ r. ⌜ r ≡ leb (value * base + digit) (2 ^ 64 - 1) ⌝ }
+{
+    if value <= ROOMY {
+        return true;
+    }
+    value <= (0xFFFF_FFFF_FFFF_FFFF - digit) / base
 }
 
 impl NumberState {
@@ -59,7 +94,6 @@ impl NumberState {
         }
     }
 
-    // Whether the next value fits is asked by a division, before there is a sum that could pass 64 bits.
     pub fn step(mut self, b: u8) -> Self
         ensures { λ r. ⌜ Stepped (self, b) r ⌝ }
     {
@@ -72,7 +106,7 @@ impl NumberState {
         if base <= digit {
             return self.refused(Refusal::InvalidDigit);
         }
-        if (0xFFFF_FFFF_FFFF_FFFF - digit) / base < self.value {
+        if !fits(self.value, base, digit) {
             return self.refused(Refusal::PosOverflow);
         }
         self.value = self.value * base + digit;
@@ -80,16 +114,34 @@ impl NumberState {
     }
 }
 
-fn steps(from: NumberState, s: &[u8]) -> NumberState
-    ensures { λ r. ⌜ r ≡ stepsOf from (now (s .entry)) ⌝ }
+fn refused(refusal: Refusal) -> Number
+    ensures { λ r. ⌜ r ≡ record { value = 0; refusal = refusal } ⌝ }
 {
-    let mut state = from;
-    let mut i = 0;
+    Number { value: 0, refusal }
+}
+
+// The fold of `step`, on a value and no state: what is read so far has no refusal, and the first one ends the reading.
+fn digits_in(hex: bool, s: &[u8]) -> Number
+    ensures { λ r. ⌜ r ≡ numberFrom (stepsOf (startOf hex) (now (s .entry))) ⌝ }
+{
+    let base = base_of(hex);
+    let mut value: u64 = 0;
+    let mut i: usize = 0;
     while i < s.len() {
-        state = state.step(s[i]);
+        let digit = digit_of(s[i]);
+        if base <= digit {
+            return refused(Refusal::InvalidDigit);
+        }
+        if !fits(value, base, digit) {
+            return refused(Refusal::PosOverflow);
+        }
+        value = value * base + digit;
         i += 1;
     }
-    state
+    Number {
+        value,
+        refusal: Refusal::None,
+    }
 }
 
 fn is_hex(s: &[u8]) -> bool
@@ -118,17 +170,9 @@ fn number_in(hex: bool, s: &[u8]) -> Number
     ensures { λ r. ⌜ r ≡ numberIn hex (now (s .entry)) ⌝ }
 {
     if s.len() == 0 {
-        return Number {
-            value: 0,
-            refusal: Refusal::Empty,
-        };
+        return refused(Refusal::Empty);
     }
-    let state = steps(NumberState::start(hex), unsigned_part(s));
-    let refusal = state.refusal;
-    Number {
-        value: state.value,
-        refusal,
-    }
+    digits_in(hex, unsigned_part(s))
 }
 
 pub fn parse_number(s: &[u8]) -> Number
