@@ -26,7 +26,6 @@ use Rattle.layouts.specs.Tables.{tableOf}
 use Rattle.layouts.specs.declared.Layout.{Layout}
 use Rattle.layouts.proofs.Sound.{Sound, sound, below}
 use Rattle.esr.specs.Decode.{topRows, reserved, empty, layoutNumber, passed, firstFailure, refused, accepted, failureFor, recordsFor, tableAnswer, classAnswer, answerOf}
-use Rattle.esr.specs.Steps.{Fits, firstLaid, walked}
 use Rattle.esr.specs.declared.Answer.{Answer}
 
 -- The checks.
@@ -76,6 +75,22 @@ walk-more v s out rows i x o e h k =
     ∙ ap (map (recordOf v)) (sym (take-suc rows i pad h) ∙ ap (λ (m : ℕ). take m rows) (sym (add-one i))))
 
 -- The layout of a table: its arrays hold the table's rows and checks, and then padding.
+
+-- rows and checks lie within their arrays, and each check is the place of a row
+pub record Fits (l : Layout) : Type 0 where
+  pub few : l .count ≤ layoutRoom
+  pub fewChecks : l .checked ≤ layoutRoom
+  pub long : length (l .rows) ≡ layoutRoom
+  pub longChecks : length (l .checks) ≡ layoutRoom
+  pub within : (i : ℕ) → i < l .checked → getD (l .checks) i 0 < layoutRoom
+
+-- the checks that a layout has
+unfoldable pub firstLaid : ℕ → Layout → Refusal
+firstLaid iss l = firstFailure iss (l .rows) (take (l .checked) (l .checks))
+
+-- the top records and ISS's own behind them
+unfoldable pub walked : Records → ℕ → Layout → Records
+walked top iss l = pushedAll top (map (recordOf iss) (take (l .count) (l .rows)))
 
 -- rows past those that are checked do not matter
 padded : (v : ℕ) (rows more : List Row) (i : ℕ) (ks : List ℕ) → T (every (below (length rows)) i ks)

@@ -1,15 +1,11 @@
 // The decoder: the class table, the top rows, the checks in order, the walk from high bits to low.
 ghost use Prim.Native.Nat.{_<_};
-ghost use Rattle.esr.specs.Decode.{layoutNumber, refused, tableAnswer, topRows};
+ghost use Rattle.esr.specs.Decode.{failureFor, layoutNumber, recordsFor, refused, tableAnswer};
 ghost use Rattle.esr.specs.Promises.{Decoded};
-ghost use Rattle.esr.specs.Steps.{Fits, firstLaid, walked};
 ghost use Rattle.layouts.specs.Tables.{tableOf};
 ghost use Rattle.records.specs.Bits.{fieldOf};
-ghost use Rattle.records.specs.Rows.{recordOf};
 ghost use Rattle.records.specs.Sets.{recordsOf};
-ghost use mathlib.Core.List.{map};
 ghost use mathlib.Core.Path.{_≡_};
-use layouts::Layout;
 use layouts::numbers;
 use records::Records;
 use records::Refusal;
@@ -120,26 +116,12 @@ fn refuse(refusal: Refusal) -> Answer
     }
 }
 
-// The records above ISS's own; the layout says how ISS's text is found.
-fn top_records(esr: u64, rule: u8) -> Records
-    ensures { λ r. ⌜ r ≡ recordsOf (map (recordOf esr) (topRows rule)) ⌝ }
+// What the first row that refuses its field answers, in the order of the checks. A layout is fetched by each function that walks it: one
+// that is handed on by value is copied, which costs more.
+fn first_failure(number: u8, iss: u64) -> Refusal
+    ensures { λ r. ⌜ r ≡ failureFor (tableOf number) iss ⌝ }
 {
-    let iss = Row(0, 25, n::ISS, n::ISS_LONG, rule, k::FREE);
-    let mut out = Records::empty();
-    out.items[0] = RES0.get(esr);
-    out.items[1] = ISS2.get(esr);
-    out.items[2] = EC.get(esr);
-    out.items[3] = IL.get(esr);
-    out.items[4] = iss.get(esr);
-    out.count = 5;
-    out
-}
-
-// What the first row that refuses its field answers, in the order of the checks.
-fn first_failure(layout: Layout, iss: u64) -> Refusal
-    requires { ⌜ Fits layout ⌝ }
-    ensures { λ r. ⌜ r ≡ firstLaid iss layout ⌝ }
-{
+    let layout = layouts::layout_of(number, iss);
     let mut i: usize = 0;
     while i < layout.checked as usize {
         let place = layout.checks[i] as usize;
@@ -153,12 +135,19 @@ fn first_failure(layout: Layout, iss: u64) -> Refusal
     Refusal::None
 }
 
-// ISS's own records behind the top ones, from high bits to low, each written where it stays.
-fn walk(top: Records, layout: Layout, iss: u64) -> Records
-    requires { ⌜ Fits layout × (top .count ≡ 5) ⌝ }
-    ensures { λ r. ⌜ r ≡ walked top iss layout ⌝ }
+// The top records, then ISS's own from high bits to low, each written where it stays. The layout says how ISS's text is found.
+fn all_records(esr: u64, number: u8, iss: u64) -> Records
+    ensures { λ r. ⌜ r ≡ recordsOf (recordsFor (tableOf number) esr iss) ⌝ }
 {
-    let mut out = top;
+    let layout = layouts::layout_of(number, iss);
+    let whole = Row(0, 25, n::ISS, n::ISS_LONG, layout.rule, k::FREE);
+    let mut out = Records::empty();
+    out.items[0] = RES0.get(esr);
+    out.items[1] = ISS2.get(esr);
+    out.items[2] = EC.get(esr);
+    out.items[3] = IL.get(esr);
+    out.items[4] = whole.get(esr);
+    out.count = 5;
     let mut i: usize = 0;
     while i < layout.count as usize {
         let row = layout.rows[i];
@@ -175,16 +164,13 @@ fn read(esr: u64, number: u8) -> Answer
     ensures { λ r. ⌜ r ≡ tableAnswer (tableOf number) esr (fieldOf esr 0 25) ⌝ }
 {
     let iss = records::field(esr, 0, 25);
-    let layout = layouts::layout_of(number, iss);
-    let refusal = first_failure(layout, iss);
+    let refusal = first_failure(number, iss);
     if refusal.number() != 0 {
         return refuse(refusal);
     }
-    let top = top_records(esr, layout.rule);
-    let all = walk(top, layout, iss);
     Answer {
         refusal: Refusal::None,
-        records: all,
+        records: all_records(esr, number, iss),
     }
 }
 

@@ -1,39 +1,47 @@
 -- The invariant: what is left of the checks answers as all of them do. A check that fails answers; with none left, nothing is refused.
-use mathlib.Core.Path.{_≡_, refl, sym, _∙_}
-use Prim.Native.Nat.{ℕ, _-_, _≤_, _<_}
+use mathlib.Core.Path.{_≡_, sym, _∙_}
+use Prim.Native.Nat.{ℕ, _-_, _≤_}
 use native.Mathlib.Omega.{arith}
 use lib.ListN.{take, drop}
-use Rattle.esr.specs.Decode.{firstFailure}
-use Rattle.esr.specs.Steps.{Fits, firstLaid}
-use Rattle.esr.proofs.Laws.{check-fails, check-passes, checks-done}
+use Rattle.layouts.specs.Tables.{tableOf}
+use Rattle.esr.specs.Decode.{firstFailure, failureFor}
+use Rattle.esr.proofs.Laws.{Fits, firstLaid, fits, laid-failure, check-fails, check-passes, checks-done}
 use Rattle.esr.proofs.first_failure.Statement.{statement}
 use Rattle.esr.proofs.first_failure.Tie as tie
 
 abbrev Inv-loop : tie.InvT-loop
-Inv-loop iss layout i₀ i =
-    (i ≤ layout .checked) × (firstLaid iss layout ≡ firstFailure iss (layout .rows) (drop i (take (layout .checked) (layout .checks))))
+Inv-loop number iss layout i₀ i =
+    Fits layout
+    × (i ≤ layout .checked)
+    × (failureFor (tableOf number) iss ≡ firstFailure iss (layout .rows) (drop i (take (layout .checked) (layout .checks))))
 
 abbrev μ-loop : tie.MeasureT-loop
-μ-loop iss layout i₀ i = layout .checked - i
+μ-loop number iss layout i₀ i = layout .checked - i
+
+layout-of-requires : tie.Need-layout-of-requires Inv-loop μ-loop
+layout-of-requires c κs = tt
 
 loop-holds : tie.Need-loop-holds Inv-loop μ-loop
 unfolding firstLaid
-loop-holds c = (omega arith, refl)
+loop-holds c =
+    let a = c .before .args in
+    let l = c .layout-of in
+    (fits (a .number) (a .iss) (l .result) (l .ensures), omega arith, sym (laid-failure (a .number) (a .iss) (l .result) (l .ensures)))
 
 cast-loop : tie.Need-cast-loop Inv-loop μ-loop
-cast-loop c = omega (arith, c .before .pre .fewChecks)
+cast-loop c = omega (arith, c .loop .inv .0 .fewChecks)
 
 element-copy-out-place : tie.Need-element-copy-out-place Inv-loop μ-loop
-element-copy-out-place c = omega (arith, c .before .before .pre .fewChecks)
+element-copy-out-place c = omega (arith, c .before .loop .inv .0 .fewChecks)
 
 cast-place : tie.Need-cast-place Inv-loop μ-loop
-cast-place c = omega (arith, c .before .before .before .pre .within (c .before .before .loop .i) (omega arith))
+cast-place c = let l = c .before .before .loop in omega (arith, l .inv .0 .within (l .i) (omega arith))
 
 mul-row : tie.Need-mul-row Inv-loop μ-loop
-mul-row c = omega (arith, c .before .before .before .pre .within (c .before .before .loop .i) (omega arith))
+mul-row c = let l = c .before .before .loop in omega (arith, l .inv .0 .within (l .i) (omega arith))
 
 element-copy-out-row : tie.Need-element-copy-out-row Inv-loop μ-loop
-element-copy-out-row c = c .before .before .before .pre .within (c .before .before .loop .i) (omega arith)
+element-copy-out-row c = let l = c .before .before .loop in l .inv .0 .within (l .i) (omega arith)
 
 check-requires : tie.Need-check-requires Inv-loop μ-loop
 check-requires c κs = tt
@@ -43,34 +51,45 @@ number-requires c κs = tt
 
 returns : tie.Need-returns Inv-loop μ-loop
 returns c =
+    let k = c .before .before in
+    let s = k .before .before .before .before in
+    let l = s .loop in
+    let f = l .inv .0 in
+    let laid = s .before .layout-of .result in
     sym
-    (c .before .before .before .before .before .before .loop .inv .1
-    ∙ check-fails (c .before .before .before .before .before .before .before .args .iss) (c .before .before .before .before .before .before .before .args .t1 .rows) (c .before .before .before .before .before .before .before .args .t1 .checks) (c .before .before .before .before .before .before .before .args .t1 .checked) (c .before .before .before .before .before .before .loop .i) (c .before .before .check .result)
-    (omega (arith, c .before .before .before .before .before .before .before .pre .fewChecks, c .before .before .before .before .before .before .before .pre .longChecks)) (omega arith) (c .before .before .check .ensures)
-    (λ e. c .if1 .taken (c .before .number .ensures ∙ e)))
+    (l .inv .2
+    ∙ check-fails (s .before .before .args .iss) (laid .rows) (laid .checks) (laid .checked) (l .i) (k .check .result)
+    (omega (arith, f .fewChecks, f .longChecks)) (omega arith) (k .check .ensures) (λ e. c .if1 .taken (c .before .number .ensures ∙ e)))
 
 add-i : tie.Need-add-i Inv-loop μ-loop
-add-i c = omega (arith, c .before .before .before .before .before .before .before .pre .fewChecks)
+add-i c = omega (arith, c .before .before .before .before .before .before .loop .inv .0 .fewChecks)
 
 loop-less : tie.Need-loop-less Inv-loop μ-loop
 loop-less c = omega arith
 
 loop-again : tie.Need-loop-again Inv-loop μ-loop
-loop-again c = (
-  omega arith,
-  c .before .before .before .before .before .before .loop .inv .1
-      ∙ check-passes (c .before .before .before .before .before .before .before .args .iss) (c .before .before .before .before .before .before .before .args .t1 .rows) (c .before .before .before .before .before .before .before .args .t1 .checks) (c .before .before .before .before .before .before .before .args .t1 .checked) (c .before .before .before .before .before .before .loop .i) (c .before .before .check .result)
-      (omega (arith, c .before .before .before .before .before .before .before .pre .fewChecks, c .before .before .before .before .before .before .before .pre .longChecks)) (omega arith) (c .before .before .check .ensures)
-      (sym (c .before .number .ensures) ∙ c .if1 .left),
-)
+loop-again c =
+    let k = c .before .before in
+    let s = k .before .before .before .before in
+    let l = s .loop in
+    let f = l .inv .0 in
+    let laid = s .before .layout-of .result in (
+      f,
+      omega arith,
+      l .inv .2
+          ∙ check-passes (s .before .before .args .iss) (laid .rows) (laid .checks) (laid .checked) (l .i) (k .check .result)
+          (omega (arith, f .fewChecks, f .longChecks)) (omega arith) (k .check .ensures) (sym (c .before .number .ensures) ∙ c .if1 .left),
+    )
 
 returns-2 : tie.Need-returns-2 Inv-loop μ-loop
 returns-2 c =
-    let done : c .before .loop .i ≡ c .before .before .args .t1 .checked = omega arith in
+    let s = c .before in
+    let f = s .loop .inv .0 in
+    let laid = s .before .layout-of .result in
+    let done : s .loop .i ≡ laid .checked = omega arith in
     sym
-    (c .before .loop .inv .1
-    ∙ rw done
-    (checks-done (c .before .before .args .iss) (c .before .before .args .t1 .rows) (c .before .before .args .t1 .checks) (c .before .before .args .t1 .checked) (omega (arith, c .before .before .pre .fewChecks, c .before .before .pre .longChecks))))
+    (s .loop .inv .2
+    ∙ rw done (checks-done (s .before .before .args .iss) (laid .rows) (laid .checks) (laid .checked) (omega (arith, f .fewChecks, f .longChecks))))
 
 pub first-failure-spec : {M : Type 1} → statement M
 first-failure-spec =
@@ -78,6 +97,7 @@ first-failure-spec =
     (tie.spec
     Inv-loop
     μ-loop
+    layout-of-requires
     loop-holds
     cast-loop
     element-copy-out-place
