@@ -5,20 +5,26 @@ use native.Mathlib.Omega.{arith}
 use lib.ListN.{length}
 use Rattle.lines.proofs.Laws.{part-moved}
 use borrow.Author.Needs.{needs}
-use Rattle.esr_number.proofs.answer_part.Statement.{statement}
-use Rattle.esr_number.proofs.answer_part.Tie as tie
+use Rattle.answers.proofs.answer_part.Statement.{statement}
+use Rattle.answers.proofs.answer_part.Tie as tie
 
 abbrev Inv-loop : tie.InvT-loop
-Inv-loop part buf₀ state₀ next₀ at₀ buf state next at = length buf ≡ length buf₀
+Inv-loop kind part buf₀ line₀ count₀ named₀ held₀ next₀ at₀ buf line count named held next at = length buf ≡ length buf₀
 
 abbrev μ-loop : tie.MeasureT-loop
-μ-loop part buf₀ state₀ next₀ at₀ buf state next at = length part - next
+μ-loop kind part buf₀ line₀ count₀ named₀ held₀ next₀ at₀ buf line count named held next at = length part - next
 
 loop-holds : tie.Need-loop-holds Inv-loop μ-loop
 loop-holds c = search needs
 
 take-line-requires : tie.Need-take-line-requires Inv-loop μ-loop
 take-line-requires c κs = search needs
+
+wrapping-add-u64-requires : tie.Need-wrapping-add-u64-requires Inv-loop μ-loop
+wrapping-add-u64-requires c κs = search needs
+
+is-followed-requires : tie.Need-is-followed-requires Inv-loop μ-loop
+is-followed-requires c κs = search needs
 
 finish-requires : tie.Need-finish-requires Inv-loop μ-loop
 finish-requires c κs = search needs
@@ -31,21 +37,30 @@ begin-requires c κs = search needs
 
 loop-less : tie.Need-loop-less Inv-loop μ-loop
 loop-less c =
-    let t = c .before .before .before .before .before .before .before .before in
+    let t = c .before .before .before .before .before .before .before .before .before .before .before in
     let l = t .before .before in
-    omega (arith, part-moved (l .loop .state) (l .before .before .before .args .part .now) (l .loop .next) (t .take-line .ensures) (search needs))
+    omega (arith, part-moved (l .loop .line) (l .before .before .before .before .args .part .now) (l .loop .next) (t .take-line .ensures) (search needs))
 
 loop-again : tie.Need-loop-again Inv-loop μ-loop
 loop-again c = search needs
 
 loop-less-2 : tie.Need-loop-less-2 Inv-loop μ-loop
 loop-less-2 c =
-    let t = c .before .before in
+    let t = c .before .before .before .before .before in
     let l = t .before .before in
-    omega (arith, part-moved (l .loop .state) (l .before .before .before .args .part .now) (l .loop .next) (t .take-line .ensures) (search needs))
+    omega (arith, part-moved (l .loop .line) (l .before .before .before .before .args .part .now) (l .loop .next) (t .take-line .ensures) (search needs))
 
 loop-again-2 : tie.Need-loop-again-2 Inv-loop μ-loop
 loop-again-2 c = search needs
+
+loop-less-3 : tie.Need-loop-less-3 Inv-loop μ-loop
+loop-less-3 c =
+    let t = c .before .before in
+    let l = t .before .before in
+    omega (arith, part-moved (l .loop .line) (l .before .before .before .before .args .part .now) (l .loop .next) (t .take-line .ensures) (search needs))
+
+loop-again-3 : tie.Need-loop-again-3 Inv-loop μ-loop
+loop-again-3 c = search needs
 
 flush-requires : tie.Need-flush-requires Inv-loop μ-loop
 flush-requires c κs = search needs
@@ -64,6 +79,8 @@ answer-part-spec =
     μ-loop
     loop-holds
     take-line-requires
+    wrapping-add-u64-requires
+    is-followed-requires
     finish-requires
     put-answer-requires
     begin-requires
@@ -71,6 +88,8 @@ answer-part-spec =
     loop-again
     loop-less-2
     loop-again-2
+    loop-less-3
+    loop-again-3
     flush-requires
     same-length
     returns)

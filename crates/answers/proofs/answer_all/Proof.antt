@@ -2,14 +2,14 @@
 use mathlib.Core.Path.{_≡_}
 use lib.ListN.{length}
 use borrow.Author.Needs.{needs}
-use Rattle.esr_number.proofs.answer_all.Statement.{statement}
-use Rattle.esr_number.proofs.answer_all.Tie as tie
+use Rattle.answers.proofs.answer_all.Statement.{statement}
+use Rattle.answers.proofs.answer_all.Tie as tie
 
 abbrev Inv-loop : tie.InvT-loop
-Inv-loop part₀ buf₀ state₀ turns₀ part buf state turns = (length part ≡ length part₀) × (length buf ≡ length buf₀)
+Inv-loop kind part₀ buf₀ standing₀ turns₀ part buf standing turns = (length part ≡ length part₀) × (length buf ≡ length buf₀)
 
 abbrev μ-loop : tie.MeasureT-loop
-μ-loop part₀ buf₀ state₀ turns₀ part buf state turns = turns
+μ-loop kind part₀ buf₀ standing₀ turns₀ part buf standing turns = turns
 
 begin-requires : tie.Need-begin-requires Inv-loop μ-loop
 begin-requires c κs = search needs
@@ -31,6 +31,9 @@ same-length-2 c = search needs
 
 returns : tie.Need-returns Inv-loop μ-loop
 returns c = search needs
+
+answer-held-requires : tie.Need-answer-held-requires Inv-loop μ-loop
+answer-held-requires c κs = search needs
 
 sub-answer-part : tie.Need-sub-answer-part Inv-loop μ-loop
 sub-answer-part c = search needs
@@ -75,6 +78,7 @@ answer-all-spec =
     same-length
     same-length-2
     returns
+    answer-held-requires
     sub-answer-part
     part-answer-part-start
     part-answer-part-end

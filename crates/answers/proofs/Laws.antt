@@ -1,0 +1,25 @@
+-- A text that was written lies in the buffer: its length is that of the front, or 0 where nothing was written.
+use Prim.Native.Nat.{ℕ, _≤_}
+use mathlib.Core.Bool.{Bool, true, false, cond}
+use mathlib.Core.List.{List, _++_}
+use mathlib.Core.Path.{_≡_, refl}
+use native.Mathlib.Omega.{arith}
+use lib.Dec.{leb}
+use lib.ListN.{length, drop, length-append}
+use Rattle.listing.specs.Outcomes.{Outcome, refused, text, answered, left, refusal, Answers}
+use Rattle.listing.specs.declared.Written.{Written}
+use Rattle.records.specs.declared.Refusal.the-variants.{None, ShortBuffer}
+
+fitting : (o : Outcome) (before : List ℕ) → answered o before .bytes ≤ length (left o before)
+unfolding answered left
+fitting (refused f) before = omega arith
+fitting (text t) before = by-room (leb (length t) (length before))
+  where
+    by-room : (b : Bool)
+        → cond b (record { refusal = None; bytes = length t }) (refusal (ShortBuffer (length t))) .bytes
+        ≤ length (cond b (t ++ drop (length t) before) before)
+    by-room true = omega (arith, length-append t (drop (length t) before))
+    by-room false = omega arith
+
+pub written-fits : (o : Outcome) (before : List ℕ) {r : Written} {after : List ℕ} → Answers o before (r, after) → r .bytes ≤ length after
+written-fits o before (e, f) = rw (e, f) (fitting o before)

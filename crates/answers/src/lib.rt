@@ -1,0 +1,219 @@
+// What the programs say of their input: lines of any length, or a flash entry, through fixed buffers. The programs differ in the kind of
+// answer alone, so the reading of the input stands here.
+ghost use Prim.Native.Nat.{_≤_};
+ghost use Rattle.answers.specs.Promises.{AnsweredEntry, AnsweredLines};
+ghost use lib.ListN.{length};
+ghost use mathlib.Core.Path.{_≡_};
+use entries::put_entry;
+use libc::STDERR_FILENO;
+use libc::STDIN_FILENO;
+use lines::LineState;
+use listings::put_listing;
+use number::Number;
+use numbers::put_number;
+use record_lines::put_block;
+
+mod entries;
+mod listings;
+mod numbers;
+mod record_lines;
+mod refusals;
+
+pub enum Kind {
+    // `ok 0xH` or `refused N`.
+    Number,
+    // A canonical block, for machines.
+    Records,
+    // The listing or its refusal; each is named where there are more than one.
+    Listing,
+}
+
+// Where a run stands between two parts of its input. The first listing is held until it is known whether a line follows it.
+struct Standing {
+    line: LineState,
+    count: u64,
+    named: bool,
+    held: bool,
+}
+
+// More than any answer takes. A block is the longest: its 19 lines have three texts each, and a text has at most 255 bytes.
+const ROOM: usize = 16384;
+
+// An entry is decided by its length field, two bytes, and the 65,535 that may follow.
+const BLOCK: usize = 65537;
+
+fn put_answer(kind: Kind, buf: &mut [u8], from: usize, place: u64, number: Number) -> usize {
+    let at = out::room_for(buf, from, ROOM);
+    match kind {
+        Kind::Number => return put_number(buf, at, number),
+        Kind::Records => return put_block(buf, at, number),
+        Kind::Listing => return put_listing(buf, at, place, number),
+    }
+}
+
+fn is_named(kind: Kind) -> bool {
+    match kind {
+        Kind::Number => return true,
+        Kind::Records => return true,
+        Kind::Listing => return false,
+    }
+}
+
+fn begin(kind: Kind) -> Standing {
+    Standing {
+        line: LineState::begin(),
+        count: 0,
+        named: is_named(kind),
+        held: false,
+    }
+}
+
+// Answers the line that is held, now that more follows it.
+fn answer_held(kind: Kind, from: Standing, buf: &mut [u8]) -> Standing {
+    if !from.held {
+        return from;
+    }
+    let line = from.line;
+    let at = put_answer(kind, buf, 0, from.count, line.finish());
+    out::flush(buf, at);
+    Standing {
+        line: LineState::begin(),
+        count: from.count,
+        named: true,
+        held: false,
+    }
+}
+
+// Whether a line is not the only one, as far as this part of the input tells.
+fn is_followed(named: bool, part: &[u8], next: usize) -> bool {
+    if named {
+        return true;
+    }
+    next < part.len()
+}
+
+// Answers the lines that end in a part of the input, and hands on where the run stands.
+fn answer_part(kind: Kind, from: Standing, part: &[u8], buf: &mut [u8]) -> Standing {
+    let mut line = from.line;
+    let mut count = from.count;
+    let mut named = from.named;
+    let mut held = false;
+    let mut next: usize = 0;
+    let mut at: usize = 0;
+    while next < part.len() {
+        let taken = lines::take_line(line, part, next);
+        line = taken.state;
+        next = taken.next;
+        if taken.ended {
+            count = std::num::wrapping_add_u64(count, 1);
+            named = is_followed(named, part, next);
+            held = !named;
+            if named {
+                at = put_answer(kind, buf, at, count, line.finish());
+                line = LineState::begin();
+            }
+        }
+    }
+    out::flush(buf, at);
+    Standing {
+        line,
+        count,
+        named,
+        held,
+    }
+}
+
+// Whether a line is still to be answered: one that is held, or a last one without a line feed that has a character.
+fn is_left(standing: Standing) -> bool {
+    if standing.held {
+        return true;
+    }
+    let line = standing.line;
+    line.is_open()
+}
+
+// The place of the last line among the lines; 0 where it is the only one, which has no name.
+fn last_place(standing: Standing) -> u64 {
+    if standing.named {
+        return std::num::wrapping_add_u64(standing.count, 1);
+    }
+    0
+}
+
+fn answer_last(kind: Kind, standing: Standing, buf: &mut [u8]) -> usize
+    ensures { λ r. ⌜ r ≡ 0 ⌝ }
+{
+    if !is_left(standing) {
+        return 0;
+    }
+    let line = standing.line;
+    let end = put_answer(kind, buf, 0, last_place(standing), line.finish());
+    out::flush(buf, end)
+}
+
+// How many bytes were read: 0 at the end of the input, and where it cannot be read, which is told.
+fn read_part(part: &mut [u8]) -> usize
+    ensures { λ r. ⌜ r ≤ length (now (part .exit)) ⌝ }
+{
+    let got = libc::read(STDIN_FILENO, part);
+    if got < 0 {
+        io::write_all(STDERR_FILENO, b"input could not be read\n");
+    }
+    io::count(got, part)
+}
+
+// A proved loop has to end, and nothing says that an input does: it counts down from a number of reads that no run uses up.
+fn answer_all(kind: Kind, part: &mut [u8], buf: &mut [u8]) -> usize
+    ensures { λ r. ⌜ r ≡ 0 ⌝ }
+{
+    let mut standing = begin(kind);
+    let mut turns = u64::MAX;
+    while 0 < turns {
+        let n = read_part(part);
+        if n == 0 {
+            return answer_last(kind, standing, buf);
+        }
+        standing = answer_held(kind, standing, buf);
+        standing = answer_part(kind, standing, &part[0..n], buf);
+        turns -= 1;
+    }
+    0
+}
+
+// Answers each line of standard input. The answer is how many bytes of what it said are still held.
+pub fn answer_lines(kind: Kind) -> usize
+    ensures { λ r. ⌜ AnsweredLines kind r ⌝ }
+{
+    let mut part = io::large_buffer();
+    let mut buf = io::large_buffer();
+    answer_all(kind, &mut part, &mut buf)
+}
+
+fn room() -> [u8; BLOCK]
+    ensures { λ r. ⌜ 65537 ≡ length r ⌝ }
+{
+    [0; BLOCK]
+}
+
+// Reads until the block is full or the input ends. What ended it is asked once more, so that an input that cannot be read is told.
+fn read_block(block: &mut [u8]) -> usize
+    ensures { λ r. ⌜ r ≤ length (now (block .exit)) ⌝ }
+{
+    let n = io::read_full(STDIN_FILENO, block);
+    if n < block.len() {
+        let mut more = [0u8; 1];
+        read_part(&mut more);
+    }
+    n
+}
+
+// Answers the flash entry at the start of standard input. The answer is how many bytes of what it said are still held.
+pub fn answer_entry() -> usize
+    ensures { λ r. ⌜ AnsweredEntry tt r ⌝ }
+{
+    let mut block = room();
+    let mut buf = io::large_buffer();
+    let n = read_block(&mut block);
+    let at = put_entry(&mut buf, 0, &block[0..n]);
+    out::flush(&buf, at)
+}

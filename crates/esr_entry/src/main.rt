@@ -1,0 +1,4 @@
+// A flash entry at the start of standard input: its numbers, its body and the listing of its ESR, or its refusal.
+fn main() {
+    answers::answer_entry();
+}

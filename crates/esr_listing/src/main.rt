@@ -1,0 +1,6 @@
+// A value on each line of standard input: the listing or the refusal of each, named where there are more than one.
+use answers::Kind;
+
+fn main() {
+    answers::answer_lines(Kind::Listing);
+}

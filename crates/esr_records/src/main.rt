@@ -1,0 +1,6 @@
+// A value on each line of standard input: a canonical block for each, the refusal or a line for each record.
+use answers::Kind;
+
+fn main() {
+    answers::answer_lines(Kind::Records);
+}
