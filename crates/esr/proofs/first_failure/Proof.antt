@@ -1,6 +1,6 @@
 -- The invariant: what is left of the checks answers as all of them do. A check that fails answers; with none left, nothing is refused.
 use mathlib.Core.Path.{_≡_, sym, _∙_}
-use Prim.Native.Nat.{ℕ, _-_, _≤_}
+use Prim.Native.Nat.{_-_, _≤_}
 use native.Mathlib.Omega.{arith}
 use lib.ListN.{take, drop}
 use Rattle.layouts.specs.Tables.{tableOf}

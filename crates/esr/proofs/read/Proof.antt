@@ -1,5 +1,5 @@
 -- What the checks answer, and where they pass, the table's records.
-use mathlib.Core.Path.{_≡_, sym, ap, _∙_}
+use mathlib.Core.Path.{sym, ap, _∙_}
 use Rattle.records.specs.declared.Records.{Records}
 use Rattle.records.specs.declared.Refusal.the-variants.{None}
 use Rattle.layouts.specs.Tables.{tableOf}

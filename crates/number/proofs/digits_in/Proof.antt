@@ -2,7 +2,7 @@
 use Prim.Native.Nat.{_+_, _-_, _*_, _^_, _≤_}
 use mathlib.Core.Path.{_≡_, refl, sym, ap, _∙_}
 use native.Mathlib.Omega.{arith}
-use lib.ListN.{length, getD, drop}
+use lib.ListN.{length, drop}
 use borrow.Author.Needs.{needs}
 use Rattle.records.specs.declared.Refusal.the-variants.{None, InvalidDigit, PosOverflow}
 use Rattle.number.specs.Numbers.{stateOf, startOf, stepsOf, numberFrom}
