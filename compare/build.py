@@ -73,6 +73,14 @@ def install(*packages):
             fail(f"apt-get {command[0]} failed")
 
 
+def absent(sources):
+    """Whether no sources are named and there are none in their usual place, which is then said."""
+    if sources or DEFAULT.is_dir():
+        return False
+    print(f"compare: nothing was compared: the Rust's sources are not at {os.path.relpath(DEFAULT, TOP)}")
+    return True
+
+
 def version_of(compiler):
     try:
         said = subprocess.run([compiler, "--version"], capture_output=True, text=True).stdout
