@@ -3,7 +3,7 @@ use Prim.Native.Nat.{ℕ, zero, suc, _+_, _*_, _/_, _%_, _^_}
 use mathlib.Core.List.{List, [], _∷_}
 use lib.ListN.{take, drop}
 
--- the number of bytes that stand behind those of n
+-- the number that bytes make behind those of n
 unfoldable pub behind : ℕ → List ℕ → ℕ
 behind n [] = n
 behind n (b ∷ bs) = behind (n * 256 + b) bs

@@ -157,18 +157,6 @@ pub steps-more : (st : NumberState) (s : List ℕ) (i : ℕ) → i < length s
 unfolding stepsOf
 steps-more st s i h = rw (add-one, drop-cons s i 0)
 
--- a refused state stays as it is
-steps-refused : (st : NumberState) (s : List ℕ) → (refusalNumber (st .refusal) ≡ 0 → ⊥) → stepsOf st s ≡ st
-unfolding stepsOf
-steps-refused st [] h = refl
-steps-refused st (b ∷ s) h = ap (λ (x : NumberState). stepsOf x s) (step-refused st b h) ∙ steps-refused st s h
-
--- a step that is refused decides what is left
-pub steps-end : (st : NumberState) (s : List ℕ) (i : ℕ) (end : NumberState) → i < length s → stepOf st (getD s i 0) ≡ end
-    → (refusalNumber (end .refusal) ≡ 0 → ⊥) → stepsOf st (drop i s) ≡ end
-steps-end st s i end h is stops =
-    steps-more st s i h ∙ ap (λ (x : NumberState). stepsOf x (drop (i + 1) s)) is ∙ steps-refused end (drop (i + 1) s) stops
-
 pub steps-done : (st : NumberState) (s : List ℕ) (i : ℕ) → i ≡ length s → stepsOf st (drop i s) ≡ st
 unfolding stepsOf
 steps-done st s i h = rw (h, drop-length)

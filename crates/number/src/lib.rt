@@ -1,7 +1,7 @@
 // Reads a number as Rust's library does: an optional "0x", an optional "+", then digits, the state after each handed on to the next.
 ghost use Prim.Native.Nat.{_*_, _+_, _-_, _<_, _^_, _≤_};
 ghost use Rattle.number.specs.Digits.{baseOf, digitOf};
-ghost use Rattle.number.specs.Numbers.{isHex, numberFrom, numberIn, startOf, stateOf, stepsOf, unsigned};
+ghost use Rattle.number.specs.Numbers.{isHex, numberIn, stateOf, stepsOf, unsigned};
 ghost use Rattle.number.specs.Promises.{Parsed, Started, Stepped};
 ghost use lib.Dec.{leb};
 ghost use mathlib.Core.Path.{_≡_};
@@ -114,34 +114,16 @@ impl NumberState {
     }
 }
 
-fn refused(refusal: Refusal) -> Number
-    ensures { λ r. ⌜ r ≡ record { value = 0; refusal = refusal } ⌝ }
+fn steps(from: NumberState, s: &[u8]) -> NumberState
+    ensures { λ r. ⌜ r ≡ stepsOf from (now (s .entry)) ⌝ }
 {
-    Number { value: 0, refusal }
-}
-
-// The fold of `step`, on a value and no state: what is read so far has no refusal, and the first one ends the reading.
-fn digits_in(hex: bool, s: &[u8]) -> Number
-    ensures { λ r. ⌜ r ≡ numberFrom (stepsOf (startOf hex) (now (s .entry))) ⌝ }
-{
-    let base = base_of(hex);
-    let mut value: u64 = 0;
-    let mut i: usize = 0;
+    let mut state = from;
+    let mut i = 0;
     while i < s.len() {
-        let digit = digit_of(s[i]);
-        if base <= digit {
-            return refused(Refusal::InvalidDigit);
-        }
-        if !fits(value, base, digit) {
-            return refused(Refusal::PosOverflow);
-        }
-        value = value * base + digit;
+        state = state.step(s[i]);
         i += 1;
     }
-    Number {
-        value,
-        refusal: Refusal::None,
-    }
+    state
 }
 
 fn is_hex(s: &[u8]) -> bool
@@ -170,9 +152,17 @@ fn number_in(hex: bool, s: &[u8]) -> Number
     ensures { λ r. ⌜ r ≡ numberIn hex (now (s .entry)) ⌝ }
 {
     if s.len() == 0 {
-        return refused(Refusal::Empty);
+        return Number {
+            value: 0,
+            refusal: Refusal::Empty,
+        };
     }
-    digits_in(hex, unsigned_part(s))
+    let state = steps(NumberState::start(hex), unsigned_part(s));
+    let refusal = state.refusal;
+    Number {
+        value: state.value,
+        refusal,
+    }
 }
 
 pub fn parse_number(s: &[u8]) -> Number
