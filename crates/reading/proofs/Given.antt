@@ -3,14 +3,15 @@ use mathlib.Core.Path.{_≡_, refl, sym, _∙_, subst}
 use mathlib.Core.Bool.{Bool, true, false, cond, _&&_, _||_}
 use mathlib.Core.List.{List, [], _∷_, List·Memᴰ, List·Memᴰ·head, List·Memᴰ·tail, List·Memᴰ·cases-cons, List·Memᴰ·eq-of-singleton, List·Memᴰ·not-nil}
 use mathlib.Core.Logic.{_⊎_, inl, inr}
-use Prim.Native.Nat.{ℕ, _^_, _≤_, _<_}
+use Prim.Native.Nat.{ℕ, zero, suc, _^_, _≤_, _<_}
 use native.Mathlib.Nat.{zero-add}
 use native.Mathlib.Omega.{arith}
 use lib.Dec.{T, eqb, ltb, eqb→eq}
 use borrow.Author.Tests.{eq-eqb, ltb-true, ltb-false}
-use Rattle.promise.proofs.Tests.{every, both-left, both-right, from, from-at, is-true}
+use Rattle.promise.proofs.Tests.{every, both-left, both-right, from, from-at}
 use Rattle.texts.specs.Rules.{rules, className, debugStatus, faultStatus, serrorStatus}
 use Rattle.texts.specs.Pool.{says, onList, ruleAt}
+use Rattle.records.specs.Bits.{fieldOf}
 use Rattle.records.specs.Refusals.{refusalNumber, refusalCarries}
 use Rattle.records.specs.declared.Refusal.the-variants.{None}
 use Rattle.records.specs.declared.Row.{Row}
@@ -22,8 +23,8 @@ use Rattle.esr.specs.Promises.{Decoded}
 use Rattle.esr.specs.declared.Answer.{Answer}
 use Rattle.reading.specs.Reading.{Own, Meets, Applying, none, there, away, Listed, Classed}
 use Rattle.reading.specs.Refusing.{Unmet, notZero, notListed, Asking, Ordered, none, asked, away, Checks, unserved, served, First, here, later, Refusing}
-use Rattle.reading.specs.Given.{ClassIn, GivenWhen}
-use Rattle.reading.proofs.Own.{own-is}
+use Rattle.reading.specs.Given.{ClassIn, aborts, debugs, NoStatus, ofAbort, ofDebug, ofSError, GivenWhen}
+use Rattle.reading.proofs.Own.{own-is, own-of}
 use Rattle.reading.proofs.Applies.{every-mem, of-member, says-listed}
 use Rattle.reading.proofs.Served.{classed-is}
 use Rattle.reading.proofs.Refusing.{refused-refusing}
@@ -37,6 +38,19 @@ sixteen (holds t) = eqb (t .start) 0 && (eqb (t .width) 6 && every (λ i x. eqb 
 sixteen (c and d) = sixteen c || sixteen d
 sixteen (c butNot d) = sixteen c
 
+-- a condition asks that a bit is 1, or that it is 0
+abbrev one : ℕ → Condition → Bool
+one k always = false
+one k (holds t) = eqb (t .start) k && (eqb (t .width) 1 && member 1 (t .among))
+one k (c and d) = false
+one k (c butNot d) = false
+
+abbrev clear : ℕ → Condition → Bool
+clear k always = false
+clear k (holds t) = false
+clear k (c and d) = clear k c || clear k d
+clear k (c butNot d) = clear k c || one k d
+
 abbrev at : ℕ → ℕ → Row → Bool
 at s w r = eqb (r .0) s && eqb (r .1) w
 
@@ -49,11 +63,18 @@ lacks xs n r = from (λ x. says (r .4) x || member x xs) 0 n
 abbrev for : ℕ → Row → Bool → Bool
 for n r b = cond (eqb (r .5) n) b true
 
-abbrev test3 : Row → Bool
-test3 r = at 0 6 r && member (r .4) (debugStatus .number ∷ faultStatus .number ∷ serrorStatus .number ∷ [])
+abbrev ruled : ℕ → List ℕ → List ℕ → Row → Bool
+ruled rule cs classes r = eqb (r .4) rule && onlyFor cs classes
+
+abbrev test3 : List ℕ → Line → Bool
+test3 classes l =
+    at 0 6 (l .row)
+    && (ruled (faultStatus .number) aborts classes (l .row)
+    || (ruled (debugStatus .number) debugs classes (l .row)
+    || (ruled (serrorStatus .number) (0x2F ∷ []) classes (l .row) && clear 24 (l .condition))))
 
 abbrev test4 : List ℕ → Line → Bool
-test4 classes l = at 11 2 (l .row) && (onlyFor (0x20 ∷ 0x21 ∷ 0x24 ∷ 0x25 ∷ []) classes && (lacks (1 ∷ []) 4 (l .row) && sixteen (l .condition)))
+test4 classes l = at 11 2 (l .row) && (onlyFor aborts classes && (lacks (1 ∷ []) 4 (l .row) && sixteen (l .condition)))
 
 abbrev test5 : List ℕ → Row → Bool
 test5 classes r = at 10 3 r && (onlyFor (0x2F ∷ []) classes && lacks (4 ∷ 5 ∷ 7 ∷ []) 8 r)
@@ -70,7 +91,7 @@ test17 r = eqb (r .1) 2 && lacks [] 4 r
 abbrev tested : List ℕ → ℕ → Line → Bool
 tested classes i l =
     for 2 (l .row) false
-    && (for 3 (l .row) (test3 (l .row))
+    && (for 3 (l .row) (test3 classes l)
     && (for 4 (l .row) (test4 classes l)
     && (for 5 (l .row) (test5 classes (l .row))
     && (for 6 (l .row) (test6 classes (l .row))
@@ -90,9 +111,15 @@ all-tested = tt
 for-at : (n : ℕ) (r : Row) (b : Bool) → T (for n r b) → r .5 ≡ n → T b
 for-at n r b t e = subst (λ (a : Bool). T (cond a b true)) (eq-eqb (r .5) n e) t
 
+either : {A : Type 0} (a b : Bool) → T (a || b) → (T a → A) → (T b → A) → A
+either true b t f g = f tt
+either false b t f g = g t
+
 or-else : (a b : Bool) → T (a || b) → (T a → ⊥) → T b
-or-else true b t h = absurd (h tt)
-or-else false b t h = t
+or-else a b t h = either a b t (λ x. absurd (h x)) (λ y. y)
+
+own-place : {v x a b s w : ℕ} → a ≡ s → b ≡ w → Own v a b x → Own v s w x
+own-place {v} {x} {a} {b} {s} {w} p q o = subst (λ (y : ℕ). Own v s y x) q (subst (λ (y : ℕ). Own v y b x) p o)
 
 sixteen-own : (v : ℕ) (c : Condition) → T (sixteen c) → Meets v c → Own v 0 6 0x10
 sixteen-own v always t m = absurd t
@@ -102,13 +129,38 @@ sixteen-own v (holds x) t m =
     let s : x .start ≡ 0 = eqb→eq (x .start) 0 (both-left (eqb (x .start) 0) _ t) in
     let z : x .width ≡ 6 = eqb→eq (x .width) 6 (both-left (eqb (x .width) 6) _ u) in
     let e : m .value ≡ 0x10 = eqb→eq (m .value) 0x10 (every-mem (λ i y. eqb y 0x10) (m .value) 0 (x .among) w (m .among) .1) in
-    subst (λ (y : ℕ). Own v 0 6 y) e (subst (λ (y : ℕ). Own v 0 y (m .value)) z (subst (λ (y : ℕ). Own v y (x .width) (m .value)) s (m .own)))
-sixteen-own v (c and d) t m = by (sixteen c) refl t (λ u. sixteen-own v c u (m .0)) (λ u. sixteen-own v d u (m .1))
-  where
-    by : (a : Bool) → sixteen c ≡ a → T (a || sixteen d) → (T (sixteen c) → Own v 0 6 0x10) → (T (sixteen d) → Own v 0 6 0x10) → Own v 0 6 0x10
-    by true e t f g = f (is-true e)
-    by false e t f g = g t
+    subst (λ (y : ℕ). Own v 0 6 y) e (own-place s z (m .own))
+sixteen-own v (c and d) t m = either (sixteen c) (sixteen d) t (λ u. sixteen-own v c u (m .0)) (λ u. sixteen-own v d u (m .1))
 sixteen-own v (c butNot d) t m = sixteen-own v c t (m .0)
+
+one-meets : (v k : ℕ) (c : Condition) → T (one k c) → Own v k 1 1 → Meets v c
+one-meets v k always t o = absurd t
+one-meets v k (holds x) t o =
+    let u : T (eqb (x .width) 1 && member 1 (x .among)) = both-right (eqb (x .start) k) _ t in
+    record {
+      value = 1;
+      own =
+          own-place (sym (eqb→eq (x .start) k (both-left (eqb (x .start) k) _ t))) (sym (eqb→eq (x .width) 1 (both-left (eqb (x .width) 1) _ u))) o;
+      among = of-member 1 (x .among) (both-right (eqb (x .width) 1) _ u);
+    }
+one-meets v k (c and d) t o = absurd t
+one-meets v k (c butNot d) t o = absurd t
+
+-- a bit that is not 1 is 0
+bit-clear : (v k : ℕ) → (Own v k 1 1 → ⊥) → Own v k 1 0
+bit-clear v k h = by (fieldOf v k 1) (own-of v k 1)
+  where
+    by : (x : ℕ) → Own v k 1 x → Own v k 1 0
+    by zero o = o
+    by (suc zero) o = absurd (h o)
+    by (suc (suc x)) o = let f : suc (suc x) < 2 = o .fits in absurd (omega arith)
+
+clear-own : (v k : ℕ) (c : Condition) → T (clear k c) → Meets v c → Own v k 1 0
+clear-own v k always t m = absurd t
+clear-own v k (holds x) t m = absurd t
+clear-own v k (c and d) t m = either (clear k c) (clear k d) t (λ u. clear-own v k c u (m .0)) (λ u. clear-own v k d u (m .1))
+clear-own v k (c butNot d) t m =
+    either (clear k c) (one k d) t (λ u. clear-own v k c u (m .0)) (λ u. bit-clear v k (λ o. m .1 (one-meets v k d u o)))
 
 unmet-own : {v : ℕ} {row : Row} {n c : ℕ} → Unmet v row n c → Own v (row .0) (row .1) c
 unmet-own (notZero o k e h) = o
@@ -132,7 +184,7 @@ module _ (v n c : ℕ) (s : Served) (k : Classed v s) (i : ℕ) (l : Line) (m : 
   own-at a b x =
       let p : l .row .0 ≡ a = eqb→eq (l .row .0) a (both-left (eqb (l .row .0) a) _ x) in
       let q : l .row .1 ≡ b = eqb→eq (l .row .1) b (both-right (eqb (l .row .0) a) _ x) in
-      subst (λ (y : ℕ). Own v a y c) q (subst (λ (y : ℕ). Own v y (l .row .1) c) p (unmet-own u))
+      own-place p q (unmet-own u)
 
   class-in : (cs : List ℕ) → T (onlyFor cs (s .classes)) → ClassIn v cs
   class-in cs x =
@@ -141,6 +193,24 @@ module _ (v n c : ℕ) (s : Served) (k : Classed v s) (i : ℕ) (l : Line) (m : 
         own = k .own;
         among = of-member (k .class) cs (every-mem (λ j y. member y cs) (k .class) 0 (s .classes) x (k .serves) .1);
       }
+
+  -- a row of a rule in some classes: the class of the value is one of them, and the rule does not list the number
+  off-list : (rule : ℕ) (ks : List ℕ) → T (ruled rule ks (s .classes) (l .row)) → (n ≡ 1 → ⊥) → ClassIn v ks × (Listed rule c → ⊥)
+  off-list rule ks x e = (
+    class-in ks (both-right (eqb (l .row .4) rule) _ x),
+    λ y. unmet-list u e (subst (λ (k : ℕ). Listed k c) (sym (eqb→eq (l .row .4) rule (both-left (eqb (l .row .4) rule) _ x))) y),
+  )
+
+  no-status : T (test3 (s .classes) l) → (n ≡ 1 → ⊥) → NoStatus v c
+  no-status x e =
+      either (ruled (faultStatus .number) aborts (s .classes) (l .row)) _ (both-right (at 0 6 (l .row)) _ x)
+      (λ y. let p : _ = off-list (faultStatus .number) aborts y e in ofAbort (p .0) (p .1))
+      (λ y. either (ruled (debugStatus .number) debugs (s .classes) (l .row)) _ y
+      (λ z. let p : _ = off-list (debugStatus .number) debugs z e in ofDebug (p .0) (p .1))
+      (λ z.
+      let r : Bool = ruled (serrorStatus .number) (0x2F ∷ []) (s .classes) (l .row) in
+      let p : _ = off-list (serrorStatus .number) (0x2F ∷ []) (both-left r _ z) e in
+      ofSError (p .0) (clear-own v 24 (l .condition) (both-right r _ z) m) (p .1)))
 
   value-in : (xs : List ℕ) (b : ℕ) → T (lacks xs b (l .row)) → c < b → (n ≡ 1 → ⊥) → List·Memᴰ c xs
   value-in xs b x h e =
@@ -154,7 +224,7 @@ module _ (v n c : ℕ) (s : Served) (k : Classed v s) (i : ℕ) (l : Line) (m : 
       let r : Row = l .row in
       let cs : List ℕ = s .classes in
       let t3 : _ = both-right (for 2 r false) _ t in
-      let t4 : _ = both-right (for 3 r (test3 r)) _ t3 in
+      let t4 : _ = both-right (for 3 r (test3 cs l)) _ t3 in
       let t5 : _ = both-right (for 4 r (test4 cs l)) _ t4 in
       let t6 : _ = both-right (for 5 r (test5 cs r)) _ t5 in
       let t7 : _ = both-right (for 6 r (test6 cs r)) _ t6 in
@@ -164,20 +234,20 @@ module _ (v n c : ℕ) (s : Served) (k : Classed v s) (i : ℕ) (l : Line) (m : 
         invalidEc = λ e. absurd (for-at 2 r false (both-left (for 2 r false) _ t) (unmet-kind u ∙ e));
         invalidFsc =
             λ e.
-            let x : T (test3 r) = for-at 3 r (test3 r) (both-left (for 3 r (test3 r)) _ t3) (unmet-kind u ∙ e) in (
+            let x : T (test3 cs l) = for-at 3 r (test3 cs l) (both-left (for 3 r (test3 cs l)) _ t3) (unmet-kind u ∙ e) in (
               own-at 0 6 (both-left (at 0 6 r) _ x),
-              record { rule = r .4; among = of-member (r .4) _ (both-right (at 0 6 r) _ x); unlisted = unmet-list u (λ f. omega arith) },
+              no-status x (λ f. omega arith),
             );
         invalidSet =
             λ e.
             let x : T (test4 cs l) = for-at 4 r (test4 cs l) (both-left (for 4 r (test4 cs l)) _ t4) (unmet-kind u ∙ e) in
             let y : _ = both-right (at 11 2 r) _ x in
-            let z : _ = both-right (onlyFor (0x20 ∷ 0x21 ∷ 0x24 ∷ 0x25 ∷ []) cs) _ y in
+            let z : _ = both-right (onlyFor aborts cs) _ y in
             let o : Own v 11 2 c = own-at 11 2 (both-left (at 11 2 r) _ x) in (
               o,
               List·Memᴰ·eq-of-singleton (value-in (1 ∷ []) 4 (both-left (lacks (1 ∷ []) 4 r) _ z) (o .fits) (λ f. omega arith)),
               sixteen-own v (l .condition) (both-right (lacks (1 ∷ []) 4 r) _ z) m,
-              class-in (0x20 ∷ 0x21 ∷ 0x24 ∷ 0x25 ∷ []) (both-left (onlyFor (0x20 ∷ 0x21 ∷ 0x24 ∷ 0x25 ∷ []) cs) _ y),
+              class-in aborts (both-left (onlyFor aborts cs) _ y),
             );
         invalidAet =
             λ e.

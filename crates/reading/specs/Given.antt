@@ -12,11 +12,18 @@ pub record ClassIn (v : ℕ) (classes : List ℕ) : Type 0 where
   pub own : Own v 26 6 class
   pub among : List·Memᴰ class classes
 
--- a list of statuses that the number is not on
-pub record NoStatus (c : ℕ) : Type 0 where
-  pub rule : ℕ
-  pub among : List·Memᴰ rule (debugStatus .number ∷ faultStatus .number ∷ serrorStatus .number ∷ [])
-  pub unlisted : Listed rule c → ⊥
+-- the abort classes, and those of the three debug layouts
+abbrev pub aborts : List ℕ
+aborts = 0x20 ∷ 0x21 ∷ 0x24 ∷ 0x25 ∷ []
+
+abbrev pub debugs : List ℕ
+debugs = 0x30 ∷ 0x31 ∷ 0x32 ∷ 0x33 ∷ 0x34 ∷ 0x35 ∷ []
+
+-- "a status that is read isn't on its list": an abort's, a debug exception's, or that of an SError, which is read where bit 24 is 0
+pub data NoStatus (v c : ℕ) : Type 0 where
+  ofAbort : ClassIn v aborts → (Listed (faultStatus .number) c → ⊥) → NoStatus v c
+  ofDebug : ClassIn v debugs → (Listed (debugStatus .number) c → ⊥) → NoStatus v c
+  ofSError : ClassIn v (0x2F ∷ []) → Own v 24 1 0 → (Listed (serrorStatus .number) c → ⊥) → NoStatus v c
 
 -- 1: "a checked reserved field isn't 0". 2: "class not tabulated". 3: "a status that is read isn't on its list". 4: "status 0x10 in an abort
 -- class and SET = 1". 5: "AET 4, 5 or 7 where AET is read". 6: "AM 5 or 7". 7: "class 0x0A, ISS above 2". 17: "SAS or TI above 3", which two
@@ -24,8 +31,8 @@ pub record NoStatus (c : ℕ) : Type 0 where
 pub record GivenWhen (v n c : ℕ) : Type 0 where
   pub invalidRes0 : n ≡ 1 → c ≡ 0 → ⊥
   pub invalidEc : n ≡ 2 → Own v 26 6 c × ((s : Served) → Classed v s → ⊥)
-  pub invalidFsc : n ≡ 3 → Own v 0 6 c × NoStatus c
-  pub invalidSet : n ≡ 4 → Own v 11 2 c × (c ≡ 1) × Own v 0 6 0x10 × ClassIn v (0x20 ∷ 0x21 ∷ 0x24 ∷ 0x25 ∷ [])
+  pub invalidFsc : n ≡ 3 → Own v 0 6 c × NoStatus v c
+  pub invalidSet : n ≡ 4 → Own v 11 2 c × (c ≡ 1) × Own v 0 6 0x10 × ClassIn v aborts
   pub invalidAet : n ≡ 5 → Own v 10 3 c × List·Memᴰ c (4 ∷ 5 ∷ 7 ∷ []) × ClassIn v (0x2F ∷ [])
   pub invalidAm : n ≡ 6 → Own v 1 3 c × List·Memᴰ c (5 ∷ 7 ∷ []) × ClassIn v (0x06 ∷ [])
   pub invalidLd64bIss : n ≡ 7 → Own v 0 25 c × (2 < c) × ClassIn v (0x0A ∷ [])
