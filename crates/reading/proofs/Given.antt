@@ -76,8 +76,8 @@ test3 classes l =
 abbrev test4 : List ℕ → Line → Bool
 test4 classes l = at 11 2 (l .row) && (onlyFor aborts classes && (lacks (1 ∷ []) 4 (l .row) && sixteen (l .condition)))
 
-abbrev test5 : List ℕ → Row → Bool
-test5 classes r = at 10 3 r && (onlyFor (0x2F ∷ []) classes && lacks (4 ∷ 5 ∷ 7 ∷ []) 8 r)
+abbrev test5 : List ℕ → Line → Bool
+test5 classes l = at 10 3 (l .row) && (onlyFor (0x2F ∷ []) classes && (lacks (4 ∷ 5 ∷ 7 ∷ []) 8 (l .row) && clear 24 (l .condition)))
 
 abbrev test6 : List ℕ → Row → Bool
 test6 classes r = at 1 3 r && (onlyFor (0x06 ∷ []) classes && lacks (5 ∷ 7 ∷ []) 8 r)
@@ -93,7 +93,7 @@ tested classes i l =
     for 2 (l .row) false
     && (for 3 (l .row) (test3 classes l)
     && (for 4 (l .row) (test4 classes l)
-    && (for 5 (l .row) (test5 classes (l .row))
+    && (for 5 (l .row) (test5 classes l)
     && (for 6 (l .row) (test6 classes (l .row))
     && (for 7 (l .row) (test7 classes (l .row))
     && for 17 (l .row) (test17 (l .row)))))))
@@ -226,7 +226,7 @@ module _ (v n c : ℕ) (s : Served) (k : Classed v s) (i : ℕ) (l : Line) (m : 
       let t3 : _ = both-right (for 2 r false) _ t in
       let t4 : _ = both-right (for 3 r (test3 cs l)) _ t3 in
       let t5 : _ = both-right (for 4 r (test4 cs l)) _ t4 in
-      let t6 : _ = both-right (for 5 r (test5 cs r)) _ t5 in
+      let t6 : _ = both-right (for 5 r (test5 cs l)) _ t5 in
       let t7 : _ = both-right (for 6 r (test6 cs r)) _ t6 in
       let t17 : _ = both-right (for 7 r (test7 cs r)) _ t7 in
       record {
@@ -251,12 +251,14 @@ module _ (v n c : ℕ) (s : Served) (k : Classed v s) (i : ℕ) (l : Line) (m : 
             );
         invalidAet =
             λ e.
-            let x : T (test5 cs r) = for-at 5 r (test5 cs r) (both-left (for 5 r (test5 cs r)) _ t5) (unmet-kind u ∙ e) in
+            let x : T (test5 cs l) = for-at 5 r (test5 cs l) (both-left (for 5 r (test5 cs l)) _ t5) (unmet-kind u ∙ e) in
             let y : _ = both-right (at 10 3 r) _ x in
+            let z : _ = both-right (onlyFor (0x2F ∷ []) cs) _ y in
             let o : Own v 10 3 c = own-at 10 3 (both-left (at 10 3 r) _ x) in (
               o,
-              value-in (4 ∷ 5 ∷ 7 ∷ []) 8 (both-right (onlyFor (0x2F ∷ []) cs) _ y) (o .fits) (λ f. omega arith),
+              value-in (4 ∷ 5 ∷ 7 ∷ []) 8 (both-left (lacks (4 ∷ 5 ∷ 7 ∷ []) 8 r) _ z) (o .fits) (λ f. omega arith),
               class-in (0x2F ∷ []) (both-left (onlyFor (0x2F ∷ []) cs) _ y),
+              clear-own v 24 (l .condition) (both-right (lacks (4 ∷ 5 ∷ 7 ∷ []) 8 r) _ z) m,
             );
         invalidAm =
             λ e.

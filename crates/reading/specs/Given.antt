@@ -33,7 +33,7 @@ pub record GivenWhen (v n c : ℕ) : Type 0 where
   pub invalidEc : n ≡ 2 → Own v 26 6 c × ((s : Served) → Classed v s → ⊥)
   pub invalidFsc : n ≡ 3 → Own v 0 6 c × NoStatus v c
   pub invalidSet : n ≡ 4 → Own v 11 2 c × (c ≡ 1) × Own v 0 6 0x10 × ClassIn v aborts
-  pub invalidAet : n ≡ 5 → Own v 10 3 c × List·Memᴰ c (4 ∷ 5 ∷ 7 ∷ []) × ClassIn v (0x2F ∷ [])
+  pub invalidAet : n ≡ 5 → Own v 10 3 c × List·Memᴰ c (4 ∷ 5 ∷ 7 ∷ []) × ClassIn v (0x2F ∷ []) × Own v 24 1 0
   pub invalidAm : n ≡ 6 → Own v 1 3 c × List·Memᴰ c (5 ∷ 7 ∷ []) × ClassIn v (0x06 ∷ [])
   pub invalidLd64bIss : n ≡ 7 → Own v 0 25 c × (2 < c) × ClassIn v (0x0A ∷ [])
   pub unreached : n ≡ 17 → ⊥
