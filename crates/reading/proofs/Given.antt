@@ -23,7 +23,7 @@ use Rattle.esr.specs.Promises.{Decoded}
 use Rattle.esr.specs.declared.Answer.{Answer}
 use Rattle.reading.specs.Reading.{Own, Meets, Applying, none, there, away, Listed, Classed}
 use Rattle.reading.specs.Refusing.{Unmet, notZero, notListed, Asking, Ordered, none, asked, away, Checks, unserved, served, First, here, later, Refusing}
-use Rattle.reading.specs.Given.{ClassIn, aborts, debugs, NoStatus, ofAbort, ofDebug, ofSError, GivenWhen}
+use Rattle.reading.specs.Given.{ClassIn, RowOf, atTop, inIss, Reserved, aborts, debugs, NoStatus, ofAbort, ofDebug, ofSError, GivenWhen}
 use Rattle.reading.proofs.Own.{own-is, own-of}
 use Rattle.reading.proofs.Applies.{every-mem, of-member, says-listed}
 use Rattle.reading.proofs.Served.{classed-is}
@@ -170,16 +170,16 @@ unmet-kind : {v : ℕ} {row : Row} {n c : ℕ} → Unmet v row n c → row .5 �
 unmet-kind (notZero o k e h) = k ∙ sym e
 unmet-kind (notListed o k e h) = sym e
 
-unmet-zero : {v : ℕ} {row : Row} {n c : ℕ} → Unmet v row n c → n ≡ 1 → c ≡ 0 → ⊥
-unmet-zero (notZero o k e h) i = h
-unmet-zero (notListed o k e h) i = absurd (k .notChecked (sym e ∙ i))
+unmet-zero : {v : ℕ} {row : Row} {n c : ℕ} → RowOf v row → Unmet v row n c → n ≡ 1 → Reserved v c × (c ≡ 0 → ⊥)
+unmet-zero {v} {row} f (notZero o k e h) i = (record { row = row; of = f; kind = k; own = o }, h)
+unmet-zero f (notListed o k e h) i = absurd (k .notChecked (sym e ∙ i))
 
 unmet-list : {v : ℕ} {row : Row} {n c : ℕ} → Unmet v row n c → (n ≡ 1 → ⊥) → Listed (row .4) c → ⊥
 unmet-list (notZero o k e h) i = absurd (i e)
 unmet-list (notListed o k e h) i = h
 
 module _ (v n c : ℕ) (s : Served) (k : Classed v s) (i : ℕ) (l : Line) (m : Meets v (l .condition)) (t : T (tested (s .classes) i l))
-    (u : Unmet v (l .row) n c) where
+    (f : RowOf v (l .row)) (u : Unmet v (l .row) n c) where
   own-at : (a b : ℕ) → T (at a b (l .row)) → Own v a b c
   own-at a b x =
       let p : l .row .0 ≡ a = eqb→eq (l .row .0) a (both-left (eqb (l .row .0) a) _ x) in
@@ -230,7 +230,7 @@ module _ (v n c : ℕ) (s : Served) (k : Classed v s) (i : ℕ) (l : Line) (m : 
       let t7 : _ = both-right (for 6 r (test6 cs r)) _ t6 in
       let t17 : _ = both-right (for 7 r (test7 cs r)) _ t7 in
       record {
-        invalidRes0 = unmet-zero u;
+        invalidRes0 = unmet-zero f u;
         invalidEc = λ e. absurd (for-at 2 r false (both-left (for 2 r false) _ t) (unmet-kind u ∙ e));
         invalidFsc =
             λ e.
@@ -327,7 +327,7 @@ module _ (v n c : ℕ) where
   top-given u =
       let e : 1 ≡ n = unmet-kind u in
       record {
-        invalidRes0 = unmet-zero u;
+        invalidRes0 = unmet-zero (atTop refl) u;
         invalidEc = λ f. absurd (omega arith);
         invalidFsc = λ f. absurd (omega arith);
         invalidSet = λ f. absurd (omega arith);
@@ -360,10 +360,11 @@ module _ (v n c : ℕ) where
   own-given : (s : Served) (rows cs : List Row) (row : Row) → Classed v s → Applying v (s .table .lines) rows → Ordered rows (s .table .order) cs
       → List·Memᴰ row cs → Unmet v row n c → GivenWhen v n c
   own-given s rows cs row k a o m u =
-      let x : Of v (s .table .lines) row = applying-line v row (s .table .lines) rows a (ordered-among row rows (s .table .order) cs o m) in
+      let j : List·Memᴰ row rows = ordered-among row rows (s .table .order) cs o m in
+      let x : Of v (s .table .lines) row = applying-line v row (s .table .lines) rows a j in
       let t : (j : ℕ) × T (tested (s .classes) j (x .line)) =
       every-mem (tested (s .classes)) (x .line) 0 (s .table .lines) (every-mem testedTable s 0 layouts all-tested (k .layout) .1) (x .among) in
-      line-given v n c s k (t .0) (x .line) (x .meets) (t .1) (subst (λ (r : Row). Unmet v r n c) (x .its) u)
+      line-given v n c s k (t .0) (x .line) (x .meets) (t .1) (subst (RowOf v) (x .its) (inIss k a j)) (subst (λ (r : Row). Unmet v r n c) (x .its) u)
 
   row-given : (cs : List Row) (row : Row) → Checks v cs → List·Memᴰ row cs → Unmet v row n c → GivenWhen v n c
   row-given cs row (unserved h) m u = by (List·Memᴰ·cases-cons m)

@@ -3,14 +3,29 @@ use Prim.Native.Nat.{ℕ, _<_}
 use mathlib.Core.List.{List, [], _∷_, List·Memᴰ}
 use mathlib.Core.Path.{_≡_}
 use Rattle.texts.specs.Rules.{debugStatus, faultStatus, serrorStatus}
+use Rattle.records.specs.Rows.{checked}
+use Rattle.records.specs.declared.Row.{Row}
 use Rattle.layouts.specs.Tables.{Served}
-use Rattle.reading.specs.Reading.{Own, Listed, Classed}
+use Rattle.esr.specs.Decode.{reserved}
+use Rattle.reading.specs.Reading.{Own, Applying, Listed, Classed}
 
 -- the class of a value is one of these
 pub record ClassIn (v : ℕ) (classes : List ℕ) : Type 0 where
   pub class : ℕ
   pub own : Own v 26 6 class
   pub among : List·Memᴰ class classes
+
+-- a row by which a value is read: the top one, RES0 37..64, or one of its class's layout that applies to it
+pub data RowOf (v : ℕ) (row : Row) : Type 0 where
+  atTop : row ≡ reserved → RowOf v row
+  inIss : {s : Served} {rows : List Row} → Classed v s → Applying v (s .table .lines) rows → List·Memᴰ row rows → RowOf v row
+
+-- "a checked reserved field", "that field's value, shifted down"
+pub record Reserved (v c : ℕ) : Type 0 where
+  pub row : Row
+  pub of : RowOf v row
+  pub kind : row .5 ≡ checked
+  pub own : Own v (row .0) (row .1) c
 
 -- the abort classes, and those of the three debug layouts
 abbrev pub aborts : List ℕ
@@ -29,7 +44,7 @@ pub data NoStatus (v c : ℕ) : Type 0 where
 -- class and SET = 1". 5: "AET 4, 5 or 7 where AET is read". 6: "AM 5 or 7". 7: "class 0x0A, ISS above 2". 17: "SAS or TI above 3", which two
 -- bits never hold.
 pub record GivenWhen (v n c : ℕ) : Type 0 where
-  pub invalidRes0 : n ≡ 1 → c ≡ 0 → ⊥
+  pub invalidRes0 : n ≡ 1 → Reserved v c × (c ≡ 0 → ⊥)
   pub invalidEc : n ≡ 2 → Own v 26 6 c × ((s : Served) → Classed v s → ⊥)
   pub invalidFsc : n ≡ 3 → Own v 0 6 c × NoStatus v c
   pub invalidSet : n ≡ 4 → Own v 11 2 c × (c ≡ 1) × Own v 0 6 0x10 × ClassIn v aborts
