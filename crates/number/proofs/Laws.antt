@@ -1,17 +1,17 @@
 -- Laws of digits, of one step and of the fold, which the functions' proofs cite: each says what a definition gives under the tests
 -- that the code made.
-use Prim.Native.Nat.{ℕ, zero, suc, _+_, _-_, _*_, _/_, _^_, _≤_, _<_}
-use mathlib.Core.Bool.{Bool, true, false, false≢true, cond, not, _&&_, and-true, and-false}
+use Prim.Native.Nat.{ℕ, _+_, _-_, _*_, _/_, _^_, _≤_, _<_}
+use mathlib.Core.Bool.{Bool, true, false, false≢true, cond, _&&_, and-true, and-false}
 use mathlib.Core.List.{List, [], _∷_}
 use mathlib.Core.Logic.{_⊎_, inl, inr}
 use mathlib.Core.Path.{_≡_, refl, sym, ap, _∙_}
-use native.Mathlib.Nat.{mul-le-mul-left, le-div-iff-mul-le, div-lt-iff-lt-mul, le-of-suc-le-suc, not-suc-le-zero}
+use native.Mathlib.Nat.{le-div-iff-mul-le, div-lt-iff-lt-mul, le-of-suc-le-suc, not-suc-le-zero}
 use native.Mathlib.Numerals.{add-one}
 use native.Mathlib.Omega.{arith}
 use lib.Dec.{eqb, leb, ltb}
 use lib.ListN.{length, getD, take, drop, length-drop}
 use lib.Seq.{drop-cons, drop-length, take-all}
-use borrow.Author.Tests.{ltb-true, ltb-false, leb-true, leb-false, lt-ltb, le-ltb, le-leb, lt-leb, eq-eqb, ne-eqb}
+use borrow.Author.Tests.{ltb-true, ltb-false, leb-false, lt-ltb, le-ltb, le-leb, lt-leb, eq-eqb, ne-eqb}
 use Rattle.number.specs.Digits.{baseOf, digitOf, noDigit}
 use Rattle.number.specs.Numbers.{stateOf, startOf, refused, grown, stepOf, stepsOf, startsWith, isHex, unsigned, numberFrom, numberIn, numberOf}
 use Rattle.number.specs.declared.NumberState.{NumberState}
@@ -23,9 +23,18 @@ use Rattle.records.specs.declared.Refusal.the-variants.{None, InvalidDigit, Pos
 -- Digits.
 
 module _ (b : ℕ) where
-  -- a character of an arm, by computing
-  pub digit-at : (k : ℕ) → b ≡ k → digitOf k ≡ digitOf b
-  digit-at k e = ap digitOf (sym e)
+  pub digit-decimal : 48 ≤ b → b ≤ 57 → digitOf b ≡ b - 48
+  unfolding digitOf
+  digit-decimal l h = simp (le-leb 48 b l, le-leb b 57 h)
+
+  pub digit-small : 97 ≤ b → b ≤ 102 → digitOf b ≡ 10 + (b - 97)
+  unfolding digitOf
+  digit-small l h = simp (le-leb 48 b (omega arith), lt-leb b 57 (omega arith), le-leb 97 b l, le-leb b 102 h)
+
+  pub digit-large : 65 ≤ b → b ≤ 70 → digitOf b ≡ 10 + (b - 65)
+  unfolding digitOf
+  digit-large l h =
+      simp (le-leb 48 b (omega arith), lt-leb b 57 (omega arith), lt-leb 97 b (omega arith), le-leb 65 b l, le-leb b 70 h)
 
   abbrev Outside : ℕ → ℕ → Type 0
   Outside low high = (b < low) ⊎ (high < b)
@@ -38,63 +47,14 @@ module _ (b : ℕ) where
   unfolding digitOf
   digit-none d l s = rw (outside 48 57 d, outside 97 102 s, outside 65 70 l)
 
--- what the arms of a match on k numbers from a on leave behind, past what P was left before them
-abbrev pub Past : Type 0 → ℕ → ℕ → ℕ → Type 0
-Past P a b zero = P
-Past P a b (suc k) = Past P a b k × (b ≡ a + k → ⊥)
-
-past : (P : Type 0) (a b k : ℕ) → Past P a b k → P × ((b < a) ⊎ (a + k ≤ b))
-past P a b zero o = (o, by-test (ltb b a) refl)
-  where
-    by-test : (t : Bool) → ltb b a ≡ t → (b < a) ⊎ (a + 0 ≤ b)
-    by-test true h = inl (ltb-true b a h)
-    by-test false h = inr (omega (arith, ltb-false b a h))
-past P a b (suc k) o = (past P a b k (o .0) .0, further (past P a b k (o .0) .1))
-  where
-    further : (b < a) ⊎ (a + k ≤ b) → (b < a) ⊎ (a + suc k ≤ b)
-    further (inl h) = inl h
-    further (inr h) = let n : b ≡ a + k → ⊥ = o .1 in inr (omega arith)
-
--- a character of no arm
-pub digit-past : (b : ℕ) → Past (Past (Past (Unit {0}) 48 b 10) 65 b 6) 97 b 6 → noDigit ≡ digitOf b
-digit-past b o =
-    let small = past (Past (Past (Unit {0}) 48 b 10) 65 b 6) 97 b 6 o in
-    let large = past (Past (Unit {0}) 48 b 10) 65 b 6 (small .0) in
-    let decimal = past (Unit {0}) 48 b 10 (large .0) in
-    sym (digit-none b (decimal .1) (large .1) (small .1))
-
 -- One step.
 
 -- the test by division says whether the next value fits
-pub by-division : (v k d m : ℕ) → 0 < k → d ≤ m → leb v ((m - d) / k) ≡ leb (v * k + d) m
-by-division v k d m hk hd = by-test (leb v ((m - d) / k)) refl
-  where
-    by-test : (t : Bool) → leb v ((m - d) / k) ≡ t → t ≡ leb (v * k + d) m
-    by-test true e =
-        let g : v * k ≤ m - d = le-div-iff-mul-le hk .0 (leb-true v ((m - d) / k) e) in
-        sym (le-leb (v * k + d) m (omega arith))
-    by-test false e =
-        let g : m - d < v * k = div-lt-iff-lt-mul hk .0 (leb-false v ((m - d) / k) e) in
-        sym (lt-leb (v * k + d) m (omega arith))
+pub fits : (v k d m : ℕ) → 0 < k → d ≤ m → v ≤ (m - d) / k → v * k + d ≤ m
+fits v k d m hk hd h = let g : v * k ≤ m - d = le-div-iff-mul-le hk .0 h in omega arith
 
--- what the test's answer, turned, says
-pub past-limit : (t : Bool) (n m : ℕ) → t ≡ leb n m → not t ≡ true → m < n
-past-limit true n m e h = absurd (false≢true h)
-past-limit false n m e h = leb-false n m (sym e)
-
-pub within-limit : (t : Bool) (n m : ℕ) → t ≡ leb n m → not t ≡ false → n ≤ m
-within-limit true n m e h = leb-true n m (sym e)
-within-limit false n m e h = absurd (false≢true (sym h))
-
--- below 2^60 there is room for a digit of either base
-pub roomy : (v k d : ℕ) → k ≤ 16 → d < k → v ≤ 2 ^ 60 - 1 → v * k + d ≤ 2 ^ 64 - 1
-roomy v k d hk hd hv =
-    let a : v * k ≤ v * 16 = mul-le-mul-left v hk in
-    omega arith
-
-pub base-most : (hex : Bool) {k : ℕ} → k ≡ baseOf hex → k ≤ 16
-base-most true e = omega arith
-base-most false e = omega arith
+pub over : (v k d m : ℕ) → 0 < k → d ≤ m → (m - d) / k < v → m < v * k + d
+over v k d m hk hd h = let g : m - d < v * k = div-lt-iff-lt-mul hk .0 h in omega arith
 
 pub base-pos : (hex : Bool) {k : ℕ} → k ≡ baseOf hex → 0 < k
 base-pos true e = omega arith

@@ -1,17 +1,12 @@
 // Reads a number as Rust's library does: an optional "0x", an optional "+", then digits, the state after each handed on to the next.
-ghost use Prim.Native.Nat.{_*_, _+_, _-_, _<_, _^_, _≤_};
 ghost use Rattle.number.specs.Digits.{baseOf, digitOf};
 ghost use Rattle.number.specs.Numbers.{isHex, numberIn, stateOf, stepsOf, unsigned};
 ghost use Rattle.number.specs.Promises.{Parsed, Started, Stepped};
-ghost use lib.Dec.{leb};
 ghost use mathlib.Core.Path.{_≡_};
 use records::Refusal;
 
 // The value of a character that is no digit: below neither base.
 const NO_DIGIT: u64 = 16;
-
-// A value that one digit more, of either base, does not take past 2^64-1: below 2^60.
-const ROOMY: u64 = 0xFFF_FFFF_FFFF_FFFF;
 
 // The value so far, the base, and the first refusal; a refused state has the value 0.
 pub struct NumberState {
@@ -36,41 +31,11 @@ fn digit_of(b: u8) -> u64
     ensures { λ r. ⌜ r ≡ digitOf b ⌝ }
 {
     match b {
-        b'0' => 0,
-        b'1' => 1,
-        b'2' => 2,
-        b'3' => 3,
-        b'4' => 4,
-        b'5' => 5,
-        b'6' => 6,
-        b'7' => 7,
-        b'8' => 8,
-        b'9' => 9,
-        b'A' => 10,
-        b'B' => 11,
-        b'C' => 12,
-        b'D' => 13,
-        b'E' => 14,
-        b'F' => 15,
-        b'a' => 10,
-        b'b' => 11,
-        b'c' => 12,
-        b'd' => 13,
-        b'e' => 14,
-        b'f' => 15,
+        b'0'..=b'9' => (b - b'0') as u64,
+        b'a'..=b'f' => 10 + (b - b'a') as u64,
+        b'A'..=b'F' => 10 + (b - b'A') as u64,
         _ => NO_DIGIT,
     }
-}
-
-// Whether a value with one digit more is below 2^64; only a large one is asked by a division, before there is a sum that could pass 64 bits.
-fn fits(value: u64, base: u64, digit: u64) -> bool
-    requires { ⌜ (0 < base) × (base ≤ 16) × (digit < base) ⌝ }
-    ensures { λ r. ⌜ r ≡ leb (value * base + digit) (2 ^ 64 - 1) ⌝ }
-{
-    if value <= ROOMY {
-        return true;
-    }
-    value <= (0xFFFF_FFFF_FFFF_FFFF - digit) / base
 }
 
 impl NumberState {
@@ -94,6 +59,7 @@ impl NumberState {
         }
     }
 
+    // Whether the next value fits is asked by a division, before there is a sum that could pass 64 bits.
     pub fn step(mut self, b: u8) -> Self
         ensures { λ r. ⌜ Stepped (self, b) r ⌝ }
     {
@@ -106,7 +72,7 @@ impl NumberState {
         if base <= digit {
             return self.refused(Refusal::InvalidDigit);
         }
-        if !fits(self.value, base, digit) {
+        if (0xFFFF_FFFF_FFFF_FFFF - digit) / base < self.value {
             return self.refused(Refusal::PosOverflow);
         }
         self.value = self.value * base + digit;

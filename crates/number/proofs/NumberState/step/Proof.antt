@@ -1,8 +1,8 @@
--- Each return is the case of the step that its tests lead to.
+-- Each return is the case of the step that its tests lead to; the test by division is the bound on the next value.
 use Prim.Native.Nat.{_+_, _-_, _*_, _^_, _≤_}
 use mathlib.Core.Path.{sym, _∙_}
 use native.Mathlib.Omega.{arith}
-use Rattle.number.proofs.Laws.{past-limit, within-limit, base-pos, base-most, step-refused, step-no-digit, step-over, step-grown}
+use Rattle.number.proofs.Laws.{fits, over, base-pos, step-refused, step-no-digit, step-over, step-grown}
 use borrow.Author.Needs.{needs}
 use Rattle.number.proofs.NumberState.step.Statement.{statement}
 use Rattle.number.proofs.NumberState.step.Tie as tie
@@ -32,34 +32,39 @@ returns-2 c =
     (step-no-digit (a .self) (a .b) _ _ (d .digit-of .ensures) (c .before .before .base-of .ensures)
     (sym (n .number .ensures) ∙ d .before .if1 .left) (c .before .if2 .taken))
 
-fits-requires : tie.Need-fits-requires
-fits-requires c κs =
-    let b = c .before in
-    let a = b .before .before .before .before .args in
-    (base-pos (a .self .hex) (b .base-of .ensures), base-most (a .self .hex) (b .base-of .ensures), c .if2 .left)
+sub-if3 : tie.Need-sub-if3
+sub-if3 c = search needs
+
+div-if3 : tie.Need-div-if3
+div-if3 c = search needs
 
 refused-requires-2 : tie.Need-refused-requires-2
 refused-requires-2 c κs = search needs
 
 returns-3 : tie.Need-returns-3
 returns-3 c =
-    let f = c .before .before in
-    let b = f .before .before in
+    let b = c .before .before .before .before in
     let d = b .before in
     let n = d .before .before in
     let a = n .before .args in
     c .refused2 .ensures
     ∙ sym
     (step-over (a .self) (a .b) _ _ (d .digit-of .ensures) (b .base-of .ensures)
-    (sym (n .number .ensures) ∙ d .before .if1 .left) (f .before .if2 .left)
-    (past-limit (f .fits2 .result) _ _ (f .fits2 .ensures) (c .before .if3 .taken)))
+    (sym (n .number .ensures) ∙ d .before .if1 .left) (c .before .before .before .if2 .left)
+    (over (a .self .value) (b .base-of .result) (d .digit-of .result) (2 ^ 64 - 1)
+    (base-pos (a .self .hex) (b .base-of .ensures)) (search needs) (c .before .if3 .taken)))
 
 -- past the third test the next value fits
-room : (c : tie.After-struct-known)
+room : (c : tie.After-struct-known2)
     → (let b = c .before .before .before .before in
     let d = b .before in
     d .before .before .before .args .self .value * b .base-of .result + d .digit-of .result ≤ 2 ^ 64 - 1)
-room c = let f = c .before .before in within-limit (f .fits2 .result) _ _ (f .fits2 .ensures) (c .before .if3 .left)
+room c =
+    let b = c .before .before .before .before in
+    let d = b .before in
+    let self = d .before .before .before .args .self in
+    fits (self .value) (b .base-of .result) (d .digit-of .result) (2 ^ 64 - 1)
+    (base-pos (self .hex) (b .base-of .ensures)) (search needs) (c .before .if3 .left)
 
 mul-self : tie.Need-mul-self
 mul-self c = omega (arith, room c)
@@ -69,14 +74,13 @@ add-self c = omega (arith, room c)
 
 returns-4 : tie.Need-returns-4
 returns-4 c =
-    let f = c .before .before in
-    let b = f .before .before in
+    let b = c .before .before .before .before in
     let d = b .before in
     let n = d .before .before in
     let a = n .before .args in
     sym
     (step-grown (a .self) (a .b) _ _ (d .digit-of .ensures) (b .base-of .ensures)
-    (sym (n .number .ensures) ∙ d .before .if1 .left) (f .before .if2 .left) (room c))
+    (sym (n .number .ensures) ∙ d .before .if1 .left) (c .before .before .before .if2 .left) (room c))
 
 pub step-spec : {M : Type 1} → statement M
 step-spec =
@@ -88,7 +92,8 @@ step-spec =
     base-of-requires
     refused-requires
     returns-2
-    fits-requires
+    sub-if3
+    div-if3
     refused-requires-2
     returns-3
     mul-self
