@@ -40,6 +40,14 @@ pub data NoStatus (v c : ℕ) : Type 0 where
   ofDebug : ClassIn v debugs → (Listed (debugStatus .number) c → ⊥) → NoStatus v c
   ofSError : ClassIn v (0x2F ∷ []) → Own v 24 1 0 → (Listed (serrorStatus .number) c → ⊥) → NoStatus v c
 
+-- "where AET is read": of an SError with bit 24 at 0, and behind its status, which is on its list
+pub record AetRead (v : ℕ) : Type 0 where
+  pub serror : ClassIn v (0x2F ∷ [])
+  pub clear : Own v 24 1 0
+  pub status : ℕ
+  pub own : Own v 0 6 status
+  pub listed : Listed (serrorStatus .number) status
+
 -- 1: "a checked reserved field isn't 0". 2: "class not tabulated". 3: "a status that is read isn't on its list". 4: "status 0x10 in an abort
 -- class and SET = 1". 5: "AET 4, 5 or 7 where AET is read". 6: "AM 5 or 7". 7: "class 0x0A, ISS above 2". 17: "SAS or TI above 3", which two
 -- bits never hold.
@@ -48,7 +56,7 @@ pub record GivenWhen (v n c : ℕ) : Type 0 where
   pub invalidEc : n ≡ 2 → Own v 26 6 c × ((s : Served) → Classed v s → ⊥)
   pub invalidFsc : n ≡ 3 → Own v 0 6 c × NoStatus v c
   pub invalidSet : n ≡ 4 → Own v 11 2 c × (c ≡ 1) × Own v 0 6 0x10 × ClassIn v aborts
-  pub invalidAet : n ≡ 5 → Own v 10 3 c × List·Memᴰ c (4 ∷ 5 ∷ 7 ∷ []) × ClassIn v (0x2F ∷ []) × Own v 24 1 0
+  pub invalidAet : n ≡ 5 → Own v 10 3 c × List·Memᴰ c (4 ∷ 5 ∷ 7 ∷ []) × AetRead v
   pub invalidAm : n ≡ 6 → Own v 1 3 c × List·Memᴰ c (5 ∷ 7 ∷ []) × ClassIn v (0x06 ∷ [])
   pub invalidLd64bIss : n ≡ 7 → Own v 0 25 c × (2 < c) × ClassIn v (0x0A ∷ [])
   pub unreached : n ≡ 17 → ⊥
