@@ -13,13 +13,13 @@ use Rattle.promise.proofs.Tests.{every, every-at, both-left, both-right}
 use Rattle.records.specs.Bits.{fieldOf}
 use Rattle.records.specs.Refusals.{refusalNumber}
 use Rattle.records.specs.Rows.{recordOf, checkOf}
-use Rattle.records.specs.Sets.{setRoom, noRecord, recordsOf, pushed, pushedAll}
+use Rattle.records.specs.Sets.{setRoom, noRecord, recordsOf}
 use Rattle.records.specs.declared.Record.{Record}
 use Rattle.records.specs.declared.Records.{Records}
 use Rattle.records.specs.declared.Refusal.{Refusal}
 use Rattle.records.specs.declared.Refusal.the-variants.{None, InvalidEc}
 use Rattle.records.specs.declared.Row.{Row}
-use Rattle.records.proofs.Laws.{pushed-all, pushed-last, pushed-count, written}
+use Rattle.records.proofs.Laws.{pushed, pushedAll, pushed-all, pushed-last, pushed-count, written}
 use Rattle.layouts.specs.Shape.{Table}
 use Rattle.layouts.specs.Layouts.{layoutRoom, pad, rowsFor, checksFor, layoutFor}
 use Rattle.layouts.specs.Tables.{tableOf}

@@ -1,7 +1,7 @@
 -- Each promise of this crate decides its answer: it says what the answer is.
 use Rattle.promise.specs.Promise.{Decides}
 use Rattle.promise.proofs.Laws.{same}
-use Rattle.records.specs.Promises.{AsBit, At, Carries, Checked, Emptied, Field, Got, Number, Numbered, Pushed}
+use Rattle.records.specs.Promises.{AsBit, At, Carries, Checked, Emptied, Field, Got, Number, Numbered}
 
 pub field-decides : Decides Field
 field-decides (v, start, width) a b = same
@@ -26,9 +26,6 @@ Row-check-decides (row, v) a b = same
 
 pub Records-empty-decides : Decides Emptied
 Records-empty-decides i a b = same
-
-pub Records-push-decides : Decides Pushed
-Records-push-decides (set, item) a b = same
 
 pub Records-at-decides : Decides At
 Records-at-decides (set, index) a b = same

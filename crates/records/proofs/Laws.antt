@@ -14,7 +14,7 @@ use borrow.Author.Tests.{lt-ltb}
 use Rattle.promise.proofs.Tests.{from, from-at}
 use Rattle.records.specs.Bits.{fieldOf}
 use Rattle.records.specs.Refusals.{refusalNumber, refusalCarries, refusals, refusalBy}
-use Rattle.records.specs.Sets.{setRoom, noRecord, recordsOf, pushed, pushedAll}
+use Rattle.records.specs.Sets.{setRoom, noRecord, recordsOf}
 use Rattle.records.specs.declared.Record.{Record}
 use Rattle.records.specs.declared.Records.{Records}
 use Rattle.records.specs.declared.Refusal.{Refusal}
@@ -92,6 +92,15 @@ number-by n c h =
     eqb→eq (refusalNumber (refusalBy n c)) n (subst (λ m. T (numbered c m)) (zero-add n) (from-at (numbered c) 0 18 n (all-numbered c) h))
 
 -- Sets.
+
+-- one record more; a full set stays as it is
+unfoldable pub pushed : Records → Record → Records
+pushed s x = cond (ltb (s .count) setRoom) (record { items = set (s .items) (s .count) x; count = s .count + 1 }) s
+
+-- records put on one after the other
+unfoldable pub pushedAll : Records → List Record → Records
+pushedAll s [] = s
+pushedAll s (x ∷ xs) = pushedAll (pushed s x) xs
 
 -- one record more
 pub push-law : (l : List Record) (x : Record) → length l < setRoom → pushed (recordsOf l) x ≡ recordsOf (l ++ (x ∷ []))

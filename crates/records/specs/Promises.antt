@@ -7,7 +7,7 @@ use lib.Dec.{eqb}
 use Rattle.records.specs.Bits.{fieldOf}
 use Rattle.records.specs.Refusals.{refusalNumber, refusalCarries, refusalBy}
 use Rattle.records.specs.Rows.{recordOf, checkOf}
-use Rattle.records.specs.Sets.{recordsOf, pushed, recordAt}
+use Rattle.records.specs.Sets.{recordsOf, recordAt}
 use Rattle.records.specs.declared.Record.{Record}
 use Rattle.records.specs.declared.Records.{Records}
 use Rattle.records.specs.declared.Refusal.{Refusal}
@@ -37,9 +37,6 @@ Checked (row, v) r = r ≡ checkOf v row
 
 abbrev pub Emptied : Unit {0} → Records → Type 0
 Emptied i r = r ≡ recordsOf []
-
-abbrev pub Pushed : Records × Record → Records → Type 0
-Pushed (set, item) r = r ≡ pushed set item
 
 abbrev pub At : Records × ℕ → Record → Type 0
 At (set, index) r = r ≡ recordAt set index

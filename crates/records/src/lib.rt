@@ -1,5 +1,5 @@
 // The vocabulary of a reading: fields of a value, rows, records and sets of them, refusals.
-ghost use Rattle.records.specs.Promises.{AsBit, At, Carries, Checked, Emptied, Field, Got, Number, Numbered, Pushed};
+ghost use Rattle.records.specs.Promises.{AsBit, At, Carries, Checked, Emptied, Field, Got, Number, Numbered};
 ghost use Rattle.records.specs.Sets.{noRecord};
 ghost use mathlib.Core.Path.{_≡_};
 
@@ -212,17 +212,6 @@ impl Records {
             items: [none; Records::MAX],
             count: 0,
         }
-    }
-
-    pub fn push(mut self, item: Record) -> Self
-        ensures { λ r. ⌜ Pushed (self, item) r ⌝ }
-    {
-        let at = self.count;
-        if at < Records::MAX {
-            self.items[at] = item;
-            self.count = at + 1;
-        }
-        self
     }
 
     pub fn at(self, index: usize) -> Record

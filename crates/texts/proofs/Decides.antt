@@ -1,7 +1,7 @@
 -- Each promise of this crate decides its answer: it says what the answer is.
 use Rattle.promise.specs.Promise.{Decides}
 use Rattle.promise.proofs.Laws.{same}
-use Rattle.texts.specs.Promises.{ByteIn, ByteOf, LengthIn, LengthOf, Pool, Says, Starts, TextCode}
+use Rattle.texts.specs.Promises.{ByteIn, LengthIn, LengthOf, Pool, Says, Starts, TextCode}
 
 pub pool-bytes-decides : Decides Pool
 pool-bytes-decides i a b = same
@@ -17,9 +17,6 @@ byte-in-decides (lent, places, code, i) a b = same
 
 pub length-of-decides : Decides LengthOf
 length-of-decides code a b = same
-
-pub byte-of-decides : Decides ByteOf
-byte-of-decides (code, i) a b = same
 
 pub says-decides : Decides Says
 says-decides (rule, value) a b = same

@@ -3,7 +3,7 @@ use Prim.Native.Nat.{ℕ}
 use mathlib.Core.Bool.{Bool}
 use mathlib.Core.List.{List}
 use mathlib.Core.Path.{_≡_}
-use lib.ListN.{length, getD}
+use lib.ListN.{length}
 use Rattle.texts.specs.Pool.{pool, starts, bytesAt, lengthIn, byteIn, says, textCode}
 
 -- the pool and the starting places
@@ -17,11 +17,7 @@ Starts i r = r ≡ starts
 abbrev pub LengthOf : ℕ → ℕ → Type 0
 LengthOf code r = r ≡ length (bytesAt code)
 
--- a byte of a text; past its end, and for a code that no text has, 0
-abbrev pub ByteOf : ℕ × ℕ → ℕ → Type 0
-ByteOf (code, i) r = r ≡ getD (bytesAt code) i 0
-
--- the same in whatever places and pool are lent
+-- the same in whatever places are lent; a byte of a text in whatever places and pool are lent, 0 past its end
 abbrev pub LengthIn : List ℕ × ℕ → ℕ → Type 0
 LengthIn (places, code) r = r ≡ lengthIn places code
 

@@ -1,7 +1,7 @@
 // Every name, long name and text: one constant pool and its starting places, and the codes by which the crates above speak of them.
 // A constant array is built anew by each function that indexes it, so a caller with more than one byte to read fetches the pool and the
 // places once and lends them.
-ghost use Rattle.texts.specs.Promises.{ByteIn, ByteOf, LengthIn, LengthOf, Pool, Says, Starts, TextCode};
+ghost use Rattle.texts.specs.Promises.{ByteIn, LengthIn, LengthOf, Pool, Says, Starts, TextCode};
 ghost use Rattle.texts.specs.Sayings.{bitIn, numbersOf};
 ghost use mathlib.Core.Path.{_≡_};
 
@@ -62,14 +62,6 @@ pub fn length_of(code: u16) -> u16
 {
     let starts = starting_places();
     length_in(&starts, code)
-}
-
-pub fn byte_of(code: u16, i: usize) -> u8
-    ensures { λ r. ⌜ ByteOf (code, i) r ⌝ }
-{
-    let pool = pool_bytes();
-    let starts = starting_places();
-    byte_in(&pool, &starts, code, i)
 }
 
 // A rule in numbers: the values that it has a text for, as bits, and its first code, that of the value 0.
