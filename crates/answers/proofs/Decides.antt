@@ -1,10 +1,7 @@
--- Each promise of this crate decides its answer: it says what the answer is.
+-- The promise of this crate decides its answer: it says what the answer is.
 use Rattle.promise.specs.Promise.{Decides}
 use Rattle.promise.proofs.Laws.{same}
-use Rattle.answers.specs.Promises.{AnsweredEntry, AnsweredLines}
+use Rattle.answers.specs.Promises.{Answered}
 
-pub answer-lines-decides : Decides AnsweredLines
-answer-lines-decides kind a b = same
-
-pub answer-entry-decides : Decides AnsweredEntry
-answer-entry-decides nothing a b = same
+pub answer-decides : Decides Answered
+answer-decides kind a b = same

@@ -1,11 +1,8 @@
--- What each public function promises. What a program reads and writes is the system's, of which no contract speaks; so all that is promised is
+-- What the public function promises. What a program reads and writes is the system's, of which no contract speaks; so all that is promised is
 -- that nothing of what was said is still held. The bytes themselves are held to stored runs.
 use Prim.Native.Nat.{ℕ}
 use mathlib.Core.Path.{_≡_}
 use Rattle.answers.specs.declared.Kind.{Kind}
 
-abbrev pub AnsweredLines : Kind → ℕ → Type 0
-AnsweredLines kind r = r ≡ 0
-
-abbrev pub AnsweredEntry : Unit {0} → ℕ → Type 0
-AnsweredEntry nothing r = r ≡ 0
+abbrev pub Answered : Kind → ℕ → Type 0
+Answered kind r = r ≡ 0

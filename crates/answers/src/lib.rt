@@ -1,7 +1,7 @@
 // What the programs say of their input: lines of any length, or a flash entry, through fixed buffers. The programs differ in the kind of
 // answer alone, so the reading of the input stands here.
 ghost use Prim.Native.Nat.{_≤_};
-ghost use Rattle.answers.specs.Promises.{AnsweredEntry, AnsweredLines};
+ghost use Rattle.answers.specs.Promises.{Answered};
 ghost use lib.ListN.{length};
 ghost use mathlib.Core.Path.{_≡_};
 use entries::put_entry;
@@ -19,12 +19,22 @@ mod numbers;
 mod record_lines;
 mod refusals;
 
+// What a program reads, and what it says.
 pub enum Kind {
-    // `ok 0xH` or `refused N`.
+    // Lines: `ok 0xH` or `refused N` for each.
     Number,
-    // A canonical block, for machines.
+    // Lines: a canonical block for each, for machines.
     Records,
-    // The listing or its refusal; each is named where there are more than one.
+    // Lines: the listing or the refusal of each, which is named where there are more than one.
+    Listing,
+    // A flash entry: its numbers, its body and the listing of its ESR, or its refusal.
+    Entry,
+}
+
+// The kinds that answer line by line.
+enum LineKind {
+    Number,
+    Records,
     Listing,
 }
 
@@ -42,24 +52,24 @@ const ROOM: usize = 16384;
 // An entry is decided by its length field, two bytes, and the 65,535 that may follow.
 const BLOCK: usize = 65537;
 
-fn put_answer(kind: Kind, buf: &mut [u8], from: usize, place: u64, number: Number) -> usize {
+fn put_answer(kind: LineKind, buf: &mut [u8], from: usize, place: u64, number: Number) -> usize {
     let at = out::room_for(buf, from, ROOM);
     match kind {
-        Kind::Number => return put_number(buf, at, number),
-        Kind::Records => return put_block(buf, at, number),
-        Kind::Listing => return put_listing(buf, at, place, number),
+        LineKind::Number => return put_number(buf, at, number),
+        LineKind::Records => return put_block(buf, at, number),
+        LineKind::Listing => return put_listing(buf, at, place, number),
     }
 }
 
-fn is_named(kind: Kind) -> bool {
+fn is_named(kind: LineKind) -> bool {
     match kind {
-        Kind::Number => return true,
-        Kind::Records => return true,
-        Kind::Listing => return false,
+        LineKind::Number => return true,
+        LineKind::Records => return true,
+        LineKind::Listing => return false,
     }
 }
 
-fn begin(kind: Kind) -> Standing {
+fn begin(kind: LineKind) -> Standing {
     Standing {
         line: LineState::begin(),
         count: 0,
@@ -69,7 +79,7 @@ fn begin(kind: Kind) -> Standing {
 }
 
 // Answers the line that is held, now that more follows it.
-fn answer_held(kind: Kind, from: Standing, buf: &mut [u8]) -> Standing {
+fn answer_held(kind: LineKind, from: Standing, buf: &mut [u8]) -> Standing {
     if !from.held {
         return from;
     }
@@ -93,7 +103,7 @@ fn is_followed(named: bool, part: &[u8], next: usize) -> bool {
 }
 
 // Answers the lines that end in a part of the input, and hands on where the run stands.
-fn answer_part(kind: Kind, from: Standing, part: &[u8], buf: &mut [u8]) -> Standing {
+fn answer_part(kind: LineKind, from: Standing, part: &[u8], buf: &mut [u8]) -> Standing {
     let mut line = from.line;
     let mut count = from.count;
     let mut named = from.named;
@@ -140,7 +150,7 @@ fn last_place(standing: Standing) -> u64 {
     0
 }
 
-fn answer_last(kind: Kind, standing: Standing, buf: &mut [u8]) -> usize
+fn answer_last(kind: LineKind, standing: Standing, buf: &mut [u8]) -> usize
     ensures { λ r. ⌜ r ≡ 0 ⌝ }
 {
     if !is_left(standing) {
@@ -163,7 +173,7 @@ fn read_part(part: &mut [u8]) -> usize
 }
 
 // A proved loop has to end, and nothing says that an input does: it counts down from a number of reads that no run uses up.
-fn answer_all(kind: Kind, part: &mut [u8], buf: &mut [u8]) -> usize
+fn answer_all(kind: LineKind, part: &mut [u8], buf: &mut [u8]) -> usize
     ensures { λ r. ⌜ r ≡ 0 ⌝ }
 {
     let mut standing = begin(kind);
@@ -180,9 +190,9 @@ fn answer_all(kind: Kind, part: &mut [u8], buf: &mut [u8]) -> usize
     0
 }
 
-// Answers each line of standard input. The answer is how many bytes of what it said are still held.
-pub fn answer_lines(kind: Kind) -> usize
-    ensures { λ r. ⌜ AnsweredLines kind r ⌝ }
+// Answers each line of standard input.
+fn answer_lines(kind: LineKind) -> usize
+    ensures { λ r. ⌜ r ≡ 0 ⌝ }
 {
     let mut part = io::large_buffer();
     let mut buf = io::large_buffer();
@@ -207,13 +217,25 @@ fn read_block(block: &mut [u8]) -> usize
     n
 }
 
-// Answers the flash entry at the start of standard input. The answer is how many bytes of what it said are still held.
-pub fn answer_entry() -> usize
-    ensures { λ r. ⌜ AnsweredEntry tt r ⌝ }
+// Answers the flash entry at the start of standard input.
+fn answer_entry() -> usize
+    ensures { λ r. ⌜ r ≡ 0 ⌝ }
 {
     let mut block = room();
     let mut buf = io::large_buffer();
     let n = read_block(&mut block);
     let at = put_entry(&mut buf, 0, &block[0..n]);
     out::flush(&buf, at)
+}
+
+// Answers standard input. The answer is how many bytes of what it said are still held.
+pub fn answer(kind: Kind) -> usize
+    ensures { λ r. ⌜ Answered kind r ⌝ }
+{
+    match kind {
+        Kind::Number => return answer_lines(LineKind::Number),
+        Kind::Records => return answer_lines(LineKind::Records),
+        Kind::Listing => return answer_lines(LineKind::Listing),
+        Kind::Entry => return answer_entry(),
+    }
 }

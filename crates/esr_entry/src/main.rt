@@ -1,4 +1,6 @@
 // A flash entry at the start of standard input: its numbers, its body and the listing of its ESR, or its refusal.
+use answers::Kind;
+
 fn main() {
-    answers::answer_entry();
+    answers::answer(Kind::Entry);
 }

@@ -2,5 +2,5 @@
 use answers::Kind;
 
 fn main() {
-    answers::answer_lines(Kind::Listing);
+    answers::answer(Kind::Listing);
 }

@@ -4,7 +4,7 @@ use mathlib.Core.Bool.{Bool, cond}
 use mathlib.Core.List.{List}
 use mathlib.Core.Path.{_≡_}
 use lib.Dec.{leb}
-use lib.ListN.{length}
+use lib.ListN.{length, take}
 use lib.Seq.{paste}
 use Rattle.io.specs.Digits.{digits, Fewest}
 
@@ -21,6 +21,10 @@ pub record PutIn (base : ℕ) (before : List ℕ) (at number : ℕ) (outcome : �
   pub count : ℕ
   pub fewest : Fewest base 1 number count
   pub put : outcome ≡ putOf before at (digits base count number)
+
+-- the bytes that are held: those before the place, or all where the place lies past the end
+abbrev pub heldIn : List ℕ → ℕ → List ℕ
+heldIn before at = take at before
 
 -- the place from which so many bytes are to be put: this one, or the first where they do not fit
 unfoldable pub roomFor : List ℕ → ℕ → ℕ → ℕ

@@ -1,7 +1,12 @@
 // A fixed output buffer: texts and numbers are put behind each other, and what is held is written to standard output when room is short.
+ghost use Rattle.out.specs.Buffers.{heldIn};
 ghost use Rattle.out.specs.Promises.{Flushed, Put, PutDecimal, PutHex, RoomFor};
+ghost use mathlib.Core.Path.{_≡_};
 use libc::STDERR_FILENO;
 use libc::STDOUT_FILENO;
+
+// The place where what is held begins, and so the one where nothing is held.
+const NOTHING_HELD: usize = 0;
 
 // The place behind the text; where it does not fit, the buffer and the place stay as they are.
 pub fn put(buf: &mut [u8], at: usize, text: &[u8]) -> usize
@@ -37,17 +42,23 @@ pub fn put_decimal(buf: &mut [u8], at: usize, number: u64) -> usize
     put(buf, at, &digits[..count])
 }
 
-// What is held lies before a place. No contract can say what a write does, so a failure is told on standard error.
+fn held(buf: &[u8], at: usize) -> &[u8]
+    ensures { λ r. ⌜ now r ≡ heldIn (now (buf .entry)) at ⌝ }
+{
+    if buf.len() < at {
+        return buf;
+    }
+    &buf[0..at]
+}
+
+// No contract can say what a write does, so a failure is told on standard error.
 pub fn flush(buf: &[u8], at: usize) -> usize
     ensures { λ r. ⌜ Flushed (now (buf .entry), at) r ⌝ }
 {
-    if buf.len() < at {
-        return 0;
-    }
-    if !io::write_all(STDOUT_FILENO, &buf[0..at]) {
+    if !io::write_all(STDOUT_FILENO, held(buf, at)) {
         io::write_all(STDERR_FILENO, b"output could not be written\n");
     }
-    0
+    NOTHING_HELD
 }
 
 // The place from which so many bytes fit: where they do not fit behind what is held, that is written and the place is 0.
