@@ -18,7 +18,7 @@ use Rattle.records.specs.declared.Records.{Records}
 use Rattle.records.specs.declared.Refusal.the-variants.{None, ShortBuffer}
 use Rattle.door.specs.Answers.{toldAs}
 use Rattle.door.specs.Buffers.{front, filling, telling}
-use Rattle.door.specs.Places.{placeOf, placesOf, decoding}
+use Rattle.door.specs.Places.{wordsOf, allWords, decoding}
 use Rattle.door.specs.declared.Filled.{Filled}
 
 -- Filling an array.
@@ -73,17 +73,17 @@ module _ (esr : ℕ) (a : Answer) (number : ℕ) (is : a ≡ answerOf esr) (told
   decode-refused r h e =
       ap (λ (x : Filled). (x, before)) e ∙ rw (← is) (rw (ne-eqb (refusalNumber (a .refusal)) 0 (λ z. h (told ∙ z))) refl)
 
-  pub decode-read : number ≡ 0 → filling (placesOf (a .records)) before ≡ decoding esr before
+  pub decode-read : number ≡ 0 → filling (allWords (a .records)) before ≡ decoding esr before
   unfolding decoding
   decode-read h = rw (← is) (rw (eq-eqb (refusalNumber (a .refusal)) 0 (sym told ∙ h)) refl)
 
 -- a record's place among those of all records of a set
 pub place-at : (s : Records) (i : ℕ) → i < s .count
-    → placeOf (getD (s .items) i noRecord) ≡ getD (placesOf s) i (placeOf noRecord)
+    → wordsOf (getD (s .items) i noRecord) ≡ getD (allWords s) i (wordsOf noRecord)
 place-at s i h =
-    sym (List·getD-map placeOf (take (s .count) (s .items)) i noRecord ∙ ap placeOf (getD-take (s .count) (s .items) i noRecord h))
+    sym (List·getD-map wordsOf (take (s .count) (s .items)) i noRecord ∙ ap wordsOf (getD-take (s .count) (s .items) i noRecord h))
 
 -- all are there where a set has room for what it counts
-pub places-count : (s : Records) → length (s .items) ≡ setRoom → s .count ≤ setRoom → length (placesOf s) ≡ s .count
+pub places-count : (s : Records) → length (s .items) ≡ setRoom → s .count ≤ setRoom → length (allWords s) ≡ s .count
 places-count s places room =
-    length-map (take (s .count) (s .items)) placeOf ∙ length-take-le (s .count) (s .items) (omega arith)
+    length-map (take (s .count) (s .items)) wordsOf ∙ length-take-le (s .count) (s .items) (omega arith)

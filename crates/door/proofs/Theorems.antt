@@ -20,7 +20,7 @@ use Rattle.records.specs.declared.Record.{Record}
 use Rattle.records.specs.declared.Refusal.the-variants.{None, ShortBuffer}
 use Rattle.door.specs.Answers.{toldAs, entryTold}
 use Rattle.door.specs.Buffers.{filling, telling}
-use Rattle.door.specs.Places.{placeOf, placesOf, decoding}
+use Rattle.door.specs.Places.{wordsOf, allWords, decoding}
 use Rattle.door.specs.declared.Filled.{Filled}
 
 -- A caller's array.
@@ -40,7 +40,7 @@ text-kept content before = by-test (leb (length content) (length before)) (recor
 pub decode-kept : (esr : ℕ) (before : List (List ℕ)) → Kept before (decoding esr before)
 unfolding decoding
 decode-kept esr before =
-    by-test (passed (answerOf esr .refusal)) (text-kept (placesOf (answerOf esr .records)) before) (record { kept = λ h. refl })
+    by-test (passed (answerOf esr .refusal)) (text-kept (allWords (answerOf esr .records)) before) (record { kept = λ h. refl })
 
 pub told-kept : (o : Outcome) (before : List ℕ) → Kept before (telling o before)
 unfolding telling answered left
@@ -57,26 +57,26 @@ told-kept (text t) before = by-room (leb (length t) (length before))
 
 module _ (x : Record) (name : x .name < 2 ^ 16) (long : x .long < 2 ^ 16) (text : x .text < 2 ^ 16) (start : x .start < 2 ^ 8) (width : x .width < 2 ^ 8) where
   abbrev word : ℕ
-  word = getD (placeOf x) 1 0
+  word = getD (wordsOf x) 1 0
 
   pub name-back : fieldOf word 0 16 ≡ x .name
-  unfolding fieldOf placeOf
+  unfolding fieldOf wordsOf
   name-back = omega arith
 
   pub long-back : fieldOf word 16 16 ≡ x .long
-  unfolding fieldOf placeOf
+  unfolding fieldOf wordsOf
   long-back = omega arith
 
   pub text-back : fieldOf word 32 16 ≡ x .text
-  unfolding fieldOf placeOf
+  unfolding fieldOf wordsOf
   text-back = omega arith
 
   pub start-back : fieldOf word 48 8 ≡ x .start
-  unfolding fieldOf placeOf
+  unfolding fieldOf wordsOf
   start-back = omega arith
 
   pub width-back : fieldOf word 56 8 ≡ x .width
-  unfolding fieldOf placeOf
+  unfolding fieldOf wordsOf
   width-back = omega arith
 
 -- The body: that many bytes of the block, from there on.

@@ -2,27 +2,27 @@
 use Prim.Native.Nat.{ℕ, _+_, _*_, _^_}
 use mathlib.Core.Bool.{cond}
 use mathlib.Core.List.{List, [], _∷_, map}
-use lib.ListN.{take}
 use Rattle.esr.specs.Decode.{passed, answerOf}
+use Rattle.records.specs.Sets.{listOf}
 use Rattle.records.specs.declared.Record.{Record}
 use Rattle.records.specs.declared.Records.{Records}
 use Rattle.door.specs.Buffers.{refusing, filling}
 use Rattle.door.specs.declared.Filled.{Filled}
 
 -- the value; then from low bits to high the codes of name, long name and text, 16 bits each, start and width, 8 bits each
-unfoldable pub placeOf : Record → List ℕ
-placeOf x =
+unfoldable pub wordsOf : Record → List ℕ
+wordsOf x =
     x .value ∷
     (x .name + x .long * 2 ^ 16 + x .text * 2 ^ 32 + x .start * 2 ^ 48 + x .width * 2 ^ 56) ∷
     []
 
--- the places of the records that a set counts, in order
-abbrev pub placesOf : Records → List (List ℕ)
-placesOf s = map placeOf (take (s .count) (s .items))
+-- those of the records that a set counts, in order
+abbrev pub allWords : Records → List (List ℕ)
+allWords s = map wordsOf (listOf s)
 
 -- a refusal of the value comes before 11
 unfoldable pub decoding : ℕ → List (List ℕ) → Filled × List (List ℕ)
 decoding esr before =
     cond (passed (answerOf esr .refusal))
-    (filling (placesOf (answerOf esr .records)) before)
+    (filling (allWords (answerOf esr .records)) before)
     (refusing (answerOf esr .refusal) before)

@@ -3,7 +3,7 @@
 ghost use Prim.Native.Nat.{_≤_};
 ghost use Rattle.door.specs.Answers.{toldAs};
 ghost use Rattle.door.specs.Buffers.{front};
-ghost use Rattle.door.specs.Places.{placeOf, placesOf};
+ghost use Rattle.door.specs.Places.{wordsOf, allWords};
 ghost use Rattle.door.specs.Promises.{BinaryPut, DecodedInto, EntryTold, LinePut, ListingPut, MessagePut, NumberTold, TextPut, ValuePut};
 ghost use Rattle.records.specs.Refusals.{refusalNumber};
 ghost use Rattle.records.specs.Sets.{setRoom};
@@ -66,7 +66,7 @@ fn told_text(written: Written) -> Filled
 
 // A record as two words, the second with all but the value: from low bits to high, as its fields lie in a little-endian machine.
 fn words(item: Record) -> [u64; 2]
-    ensures { λ r. ⌜ r ≡ placeOf item ⌝ }
+    ensures { λ r. ⌜ r ≡ wordsOf item ⌝ }
 {
     let names = item.name as u64 + item.long as u64 * 0x1_0000;
     let bits = item.start as u64 + item.width as u64 * 0x100;
@@ -78,7 +78,7 @@ fn words(item: Record) -> [u64; 2]
 
 fn put_records(records: Records, places: &mut [[u64; 2]])
     requires { ⌜ (records .count ≤ setRoom) × (records .count ≤ length (now places)) ⌝ }
-    ensures { λ _. ⌜ (length (placesOf records) ≡ records .count) × (now (places .exit) ≡ front (placesOf records) (now (places .entry))) ⌝ }
+    ensures { λ _. ⌜ (length (allWords records) ≡ records .count) × (now (places .exit) ≡ front (allWords records) (now (places .entry))) ⌝ }
 {
     let mut i: usize = 0;
     while i < records.count {

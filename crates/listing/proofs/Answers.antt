@@ -13,14 +13,14 @@ use Rattle.texts.specs.Pool.{says, onList, ruleAt}
 use Rattle.texts.specs.Rules.{Rule, rules, message}
 use Rattle.texts.proofs.Laws.{says-below}
 use Rattle.records.specs.Refusals.{refusalNumber}
-use Rattle.records.specs.Sets.{setRoom, noRecord, recordAt}
+use Rattle.records.specs.Sets.{setRoom, noRecord, recordAt, listOf}
 use Rattle.records.specs.declared.Record.{Record}
 use Rattle.records.specs.declared.Records.{Records}
 use Rattle.records.specs.declared.Refusal.the-variants.{BadField, BadIndex}
 use Rattle.esr.specs.Decode.{answerOf}
 use Rattle.esr.specs.declared.Answer.{Answer}
 use Rattle.esr.proofs.Laws.{answer-room}
-use Rattle.listing.specs.Asked.{valueString, binaryString, messageOf, recordsIn, lineIn, recordLine, listingWith, listingOf}
+use Rattle.listing.specs.Asked.{valueString, binaryString, messageOf, lineIn, recordLine, listingWith, listingOf}
 use Rattle.listing.specs.Fields.{valueText, binaryText, lineText, fits}
 use Rattle.listing.specs.Listings.{inPool, listingFrom}
 use Rattle.listing.specs.Messages.{messageText, hasMessage}
@@ -100,7 +100,7 @@ module _ (esr : ℕ) (a : Answer) (n : ℕ) (is : a ≡ answerOf esr) (by : n �
   unfolding listingWith
   listing-no h = rw (← is, ne-eqb (refusalNumber (a .refusal)) 0 (λ e. h (by ∙ e)))
 
-  pub listing-yes : n ≡ 0 → listingOf esr ≡ text (listingFrom inPool 0 (recordsIn a))
+  pub listing-yes : n ≡ 0 → listingOf esr ≡ text (listingFrom inPool 0 (listOf (a .records)))
   unfolding listingWith
   listing-yes h = rw (← is, eq-eqb (refusalNumber (a .refusal)) 0 (sym by ∙ h))
 
@@ -108,7 +108,7 @@ module _ (esr : ℕ) (a : Answer) (n : ℕ) (is : a ≡ answerOf esr) (by : n �
   unfolding recordLine
   line-refused h index = rw (← is, ne-eqb (refusalNumber (a .refusal)) 0 (λ e. h (by ∙ e)))
 
-  line-in : n ≡ 0 → (index : ℕ) → recordLine esr index ≡ lineIn (recordsIn a) index
+  line-in : n ≡ 0 → (index : ℕ) → recordLine esr index ≡ lineIn (listOf (a .records)) index
   unfolding recordLine
   line-in h index = rw (← is, eq-eqb (refusalNumber (a .refusal)) 0 (sym by ∙ h))
 
@@ -117,7 +117,7 @@ module _ (esr : ℕ) (a : Answer) (n : ℕ) (is : a ≡ answerOf esr) (by : n �
     pub room : a .records .count ≤ setRoom
     room = subst (λ (x : Answer). length (x .records .items) ≡ setRoom → x .records .count ≤ setRoom) (sym is) (answer-room esr) places
 
-    counted : length (recordsIn a) ≡ a .records .count
+    counted : length (listOf (a .records)) ≡ a .records .count
     counted = length-take-le (a .records .count) (a .records .items) (omega (arith, room))
 
     pub line-no : n ≡ 0 → (index : ℕ) → a .records .count ≤ index → recordLine esr index ≡ refused (BadIndex (a .records .count))

@@ -4,12 +4,11 @@ use Prim.Native.Nat.{ℕ}
 use mathlib.Core.Bool.{cond}
 use mathlib.Core.List.{List}
 use lib.Dec.{ltb}
-use lib.ListN.{length, getD, take}
-use Rattle.records.specs.Sets.{noRecord}
+use lib.ListN.{length, getD}
+use Rattle.records.specs.Sets.{noRecord, listOf}
 use Rattle.records.specs.declared.Record.{Record}
 use Rattle.records.specs.declared.Refusal.the-variants.{BadField, BadIndex}
 use Rattle.esr.specs.Decode.{passed, answerOf}
-use Rattle.esr.specs.declared.Answer.{Answer}
 use Rattle.listing.specs.Fields.{valueText, binaryText, lineText, fits}
 use Rattle.listing.specs.Listings.{Phrase, inPool, listingFrom}
 use Rattle.listing.specs.Messages.{messageText, hasMessage}
@@ -24,20 +23,16 @@ binaryString width value = cond (fits width value) (text (binaryText width value
 unfoldable pub messageOf : ℕ → ℕ → Outcome
 messageOf number carried = cond (hasMessage number) (text (messageText number carried)) (refused BadField)
 
--- the records that an answer counts
-abbrev pub recordsIn : Answer → List Record
-recordsIn a = take (a .records .count) (a .records .items)
-
 unfoldable pub lineIn : List Record → ℕ → Outcome
 lineIn rs index = cond (ltb index (length rs)) (text (lineText (getD rs index noRecord))) (refused (BadIndex (length rs)))
 
 unfoldable pub recordLine : ℕ → ℕ → Outcome
 recordLine esr index =
-    cond (passed (answerOf esr .refusal)) (lineIn (recordsIn (answerOf esr)) index) (refused (answerOf esr .refusal))
+    cond (passed (answerOf esr .refusal)) (lineIn (listOf (answerOf esr .records)) index) (refused (answerOf esr .refusal))
 
 unfoldable pub listingWith : (ℕ → Phrase) → ℕ → Outcome
 listingWith lookup esr =
-    cond (passed (answerOf esr .refusal)) (text (listingFrom lookup 0 (recordsIn (answerOf esr)))) (refused (answerOf esr .refusal))
+    cond (passed (answerOf esr .refusal)) (text (listingFrom lookup 0 (listOf (answerOf esr .records)))) (refused (answerOf esr .refusal))
 
 abbrev pub listingOf : ℕ → Outcome
 listingOf esr = listingWith inPool esr

@@ -15,7 +15,7 @@ use Rattle.texts.specs.Rules.{rules}
 use Rattle.records.specs.Bits.{fieldOf}
 use Rattle.records.specs.Refusals.{refusalNumber, refusalCarries, refusalBy}
 use Rattle.records.specs.Rows.{recordOf, checkOf}
-use Rattle.records.specs.Sets.{recordsOf}
+use Rattle.records.specs.Sets.{recordsOf, listOf}
 use Rattle.records.specs.declared.Record.{Record}
 use Rattle.records.specs.declared.Refusal.{Refusal}
 use Rattle.records.specs.declared.Refusal.the-variants.{None}
@@ -33,7 +33,7 @@ use Rattle.listing.specs.Outcomes.{Outcome, text as inFull, answered, left}
 use Rattle.number.specs.Digits.{digitOf}
 use Rattle.number.specs.Numbers.{numberOf, numberIn, stepsOf, stepOf, startsWith}
 use Rattle.number.specs.declared.Number.{Number}
-use Rattle.marked.specs.Cases.{Fact, ofValue, withText, Expected, refusal, accepted, Case, cases, Says, Shown, AllShown, recordsIn, Met, Holds, AllHold, NumberHolds, listed, ended, ListingHolds}
+use Rattle.marked.specs.Cases.{Fact, ofValue, withText, Expected, refusal, accepted, Case, cases, Says, Shown, AllShown, Met, Holds, AllHold, NumberHolds, listed, ended, ListingHolds}
 
 -- The test.
 
@@ -55,8 +55,8 @@ isEmpty (x ∷ xs) = false
 
 abbrev met : Expected → Answer → Bool
 met (refusal number carried) r =
-    eqb (refusalNumber (r .refusal)) number && (eqb (refusalCarries (r .refusal)) carried && isEmpty (recordsIn r))
-met (accepted facts) r = eqb (refusalNumber (r .refusal)) 0 && allShown facts (recordsIn r)
+    eqb (refusalNumber (r .refusal)) number && (eqb (refusalCarries (r .refusal)) carried && isEmpty (listOf (r .records)))
+met (accepted facts) r = eqb (refusalNumber (r .refusal)) 0 && allShown facts (listOf (r .records))
 
 abbrev allMet : List Case → Bool
 allMet [] = true
@@ -100,14 +100,14 @@ all-so (f ∷ fs) l t =
 met-so : (e : Expected) (r : Answer) → T (met e r) → Met e r
 met-so (refusal number carried) r t =
     let n : ℕ = refusalNumber (r .refusal) in
-    let u : T (eqb (refusalCarries (r .refusal)) carried && isEmpty (recordsIn r)) = both-right (eqb n number) _ t in (
+    let u : T (eqb (refusalCarries (r .refusal)) carried && isEmpty (listOf (r .records))) = both-right (eqb n number) _ t in (
       eqb→eq n number (both-left (eqb n number) _ t),
       eqb→eq (refusalCarries (r .refusal)) carried (both-left (eqb (refusalCarries (r .refusal)) carried) _ u),
-      none-empty (recordsIn r) (both-right (eqb (refusalCarries (r .refusal)) carried) _ u),
+      none-empty (listOf (r .records)) (both-right (eqb (refusalCarries (r .refusal)) carried) _ u),
     )
 met-so (accepted facts) r t =
     let n : ℕ = refusalNumber (r .refusal) in
-    (no-refusal (r .refusal) (eqb→eq n 0 (both-left (eqb n 0) _ t)), all-so facts (recordsIn r) (both-right (eqb n 0) _ t))
+    (no-refusal (r .refusal) (eqb→eq n 0 (both-left (eqb n 0) _ t)), all-so facts (listOf (r .records)) (both-right (eqb n 0) _ t))
 
 all-hold : (cs : List Case) → T (allMet cs) → AllHold cs
 all-hold [] t = tt

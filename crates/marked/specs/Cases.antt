@@ -3,9 +3,10 @@ use Prim.Native.Nat.{ℕ, _≤_}
 use Prim.Native.String.{String}
 use mathlib.Core.List.{List, [], _∷_, _++_, List·Memᴰ}
 use mathlib.Core.Path.{_≡_}
-use lib.ListN.{length, take, drop}
+use lib.ListN.{length, drop}
 use Rattle.texts.specs.Pool.{bytes, textAt}
 use Rattle.records.specs.Refusals.{refusalNumber, refusalCarries}
+use Rattle.records.specs.Sets.{listOf}
 use Rattle.records.specs.declared.Record.{Record}
 use Rattle.records.specs.declared.Refusal.the-variants.{None}
 use Rattle.esr.specs.Promises.{Decoded}
@@ -67,13 +68,9 @@ abbrev pub AllShown : List Fact → List Record → Type 0
 AllShown [] l = Unit {0}
 AllShown (f ∷ fs) l = Shown f l × AllShown fs l
 
--- the records that an answer counts
-abbrev pub recordsIn : Answer → List Record
-recordsIn r = take (r .records .count) (r .records .items)
-
 abbrev pub Met : Expected → Answer → Type 0
-Met (refusal number carried) r = (refusalNumber (r .refusal) ≡ number) × (refusalCarries (r .refusal) ≡ carried) × (recordsIn r ≡ [])
-Met (accepted facts) r = (r .refusal ≡ None) × AllShown facts (recordsIn r)
+Met (refusal number carried) r = (refusalNumber (r .refusal) ≡ number) × (refusalCarries (r .refusal) ≡ carried) × (listOf (r .records) ≡ [])
+Met (accepted facts) r = (r .refusal ≡ None) × AllShown facts (listOf (r .records))
 
 -- every answer that decode's promise allows is as the case says
 abbrev pub Holds : Case → Type 0

@@ -5,6 +5,7 @@ use mathlib.Core.List.{List, [], _∷_, _++_}
 use mathlib.Core.Path.{_≡_}
 use lib.Dec.{leb, ltb}
 use lib.ListN.{length, take, drop}
+use Rattle.records.specs.Sets.{listOf}
 use Rattle.records.specs.declared.Record.{Record}
 use Rattle.records.specs.declared.Records.{Records}
 
@@ -14,7 +15,7 @@ leavesIn l = take 4 l ++ cond (ltb 5 (length l)) (drop 5 l) (drop 4 l)
 
 -- the leaves by their places in a set; a count past the set's room counts all its places
 unfoldable pub leaves : Records → List Record
-leaves s = leavesIn (take (s .count) (s .items))
+leaves s = leavesIn (listOf s)
 
 -- records that lie from bit top - 1 down to bit 0 without gap or overlap
 pub data Tile : ℕ → List Record → Type 0 where

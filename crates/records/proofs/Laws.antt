@@ -7,14 +7,14 @@ use native.Mathlib.Nat.{one-mul, mod-lt, mod-eq-of-lt, zero-mod, div-eq-of-lt, z
 use native.Mathlib.Omega.{arith}
 use lib.Bits.{bitAnd, and-mask}
 use lib.Dec.{T, eqb, ltb, eqb→eq}
-use lib.ListN.{length, getD, take, replicate, set, length-append, length-map, length-replicate, List·getD-append}
+use lib.ListN.{length, getD, replicate, set, length-append, length-map, length-replicate, List·getD-append}
 use lib.Pow.{pow-pos, pow-mono, pow-lt, shr-le}
 use lib.Seq.{set-append-seam, take-append-seam}
 use borrow.Author.Tests.{lt-ltb}
 use Rattle.promise.proofs.Tests.{from, from-at}
 use Rattle.records.specs.Bits.{fieldOf}
 use Rattle.records.specs.Refusals.{refusalNumber, refusalCarries, refusals, refusalBy}
-use Rattle.records.specs.Sets.{setRoom, noRecord, recordsOf}
+use Rattle.records.specs.Sets.{setRoom, noRecord, recordsOf, listOf}
 use Rattle.records.specs.declared.Record.{Record}
 use Rattle.records.specs.declared.Records.{Records}
 use Rattle.records.specs.declared.Refusal.{Refusal}
@@ -144,10 +144,6 @@ pushed-count s [] h = omega arith
 pushed-count s (y ∷ ys) h =
     let one : pushed s y .count ≡ s .count + 1 = ap (λ (r : Records). r .count) (sym (written s y (omega arith))) in
     omega (arith, pushed-count (pushed s y) ys (omega arith), one)
-
--- the records that a set holds
-abbrev pub listOf : Records → List Record
-listOf s = take (s .count) (s .items)
 
 pub list-of : (l : List Record) → listOf (recordsOf l) ≡ l
 unfolding recordsOf

@@ -6,7 +6,7 @@ use Rattle.esr.specs.declared.Answer.{Answer}
 use Rattle.listing.proofs.Answers.{room}
 use Rattle.records.proofs.Laws.{long-as}
 use Rattle.records.specs.Sets.{setRoom}
-use Rattle.door.specs.Places.{placesOf}
+use Rattle.door.specs.Places.{allWords}
 use Rattle.door.proofs.Laws.{told-short, told-filled, decode-refused, decode-read, places-count}
 use borrow.Author.Needs.{needs}
 use Rattle.door.proofs.esr_decode.Statement.{statement}
@@ -40,7 +40,7 @@ returns-2 c =
     let r : Answer = d .decode .result in
     let long : length (r .records .items) ≡ setRoom = search (needs, long-as) in
     let few : r .records .count ≤ setRoom = room (a .esr) r (n .number .result) (d .decode .ensures) (n .number .ensures) long in
-    told-short (placesOf (r .records)) (a .places .now) (r .records .count) (sym (places-count (r .records) long few))
+    told-short (allWords (r .records)) (a .places .now) (r .records .count) (sym (places-count (r .records) long few))
     (c .told2 .result) (c .before .if2 .taken) (c .told2 .ensures)
     ∙ decode-read (a .esr) r (n .number .result) (d .decode .ensures) (n .number .ensures) (a .places .now) (c .before .before .if1 .left)
 
@@ -66,7 +66,7 @@ returns-3 c =
     let d = n .before in
     let a = d .before .args in
     let r : Answer = d .decode .result in
-    told-filled (placesOf (r .records)) (a .places .now) (r .records .count) (sym (p .put-records .ensures .0))
+    told-filled (allWords (r .records)) (a .places .now) (r .records .count) (sym (p .put-records .ensures .0))
     (c .told3 .result) (p .put-records .last .1 .0) (i .if2 .left) (c .told3 .ensures) (p .put-records .ensures .1)
     ∙ decode-read (a .esr) r (n .number .result) (d .decode .ensures) (n .number .ensures) (a .places .now) (i .before .if1 .left)
 

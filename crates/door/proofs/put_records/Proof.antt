@@ -7,7 +7,7 @@ use lib.ListN.{length, set, length-set}
 use Rattle.records.proofs.Laws.{long-as}
 use Rattle.records.specs.Sets.{setRoom, noRecord}
 use Rattle.records.specs.declared.Records.{Records}
-use Rattle.door.specs.Places.{placeOf, placesOf}
+use Rattle.door.specs.Places.{wordsOf, allWords}
 use Rattle.door.proofs.Laws.{soFar, so-far-more, so-far-done, place-at, places-count}
 use borrow.Author.Needs.{needs}
 use Rattle.door.proofs.put_records.Statement.{statement}
@@ -15,7 +15,7 @@ use Rattle.door.proofs.put_records.Tie as tie
 
 abbrev Inv-loop : tie.InvT-loop
 Inv-loop places₀ records i₀ places i =
-    (i ≤ records .count) × (length places ≡ length places₀) × (places ≡ soFar (placesOf records) places₀ i)
+    (i ≤ records .count) × (length places ≡ length places₀) × (places ≡ soFar (allWords records) places₀ i)
 
 abbrev μ-loop : tie.MeasureT-loop
 μ-loop places₀ records i₀ places i = records .count - i
@@ -51,11 +51,11 @@ loop-again c =
     let s : Records = start .args .t1 in
     let places : List (List ℕ) = start .args .places .now in
     let long : length (s .items) ≡ setRoom = search (needs, long-as) in
-    let n : length (placesOf s) ≡ s .count = places-count s long (start .pre .0) in (
+    let n : length (allWords s) ≡ s .count = places-count s long (start .pre .0) in (
       omega arith,
       length-set (l .places) (l .i) (c .words .result) ∙ l .inv .1,
       ap (λ (p : List (List ℕ)). set p (l .i) (c .words .result)) (l .inv .2)
-          ∙ so-far-more (placesOf s) places (omega (arith, start .pre .1)) (placeOf noRecord) (l .i) (c .words .result) (omega arith)
+          ∙ so-far-more (allWords s) places (omega (arith, start .pre .1)) (wordsOf noRecord) (l .i) (c .words .result) (omega arith)
           (c .words .ensures ∙ place-at s (l .i) (omega arith)),
     )
 
@@ -68,8 +68,8 @@ returns c =
     let start = c .before .before in
     let s : Records = start .args .t1 in
     let long : length (s .items) ≡ setRoom = search (needs, long-as) in
-    let n : length (placesOf s) ≡ s .count = places-count s long (start .pre .0) in
-    (n, l .inv .2 ∙ so-far-done (placesOf s) (start .args .places .now) (omega (arith, start .pre .1)) (l .i) (omega arith))
+    let n : length (allWords s) ≡ s .count = places-count s long (start .pre .0) in
+    (n, l .inv .2 ∙ so-far-done (allWords s) (start .args .places .now) (omega (arith, start .pre .1)) (l .i) (omega arith))
 
 pub put-records-spec : {M : Type 1} → statement M
 put-records-spec =

@@ -4,7 +4,7 @@ use mathlib.Core.List.{[], _∷_}
 use mathlib.Core.Path.{ap}
 use native.Mathlib.Omega.{arith}
 use Rattle.records.specs.declared.Record.{Record}
-use Rattle.door.specs.Places.{placeOf}
+use Rattle.door.specs.Places.{wordsOf}
 use borrow.Author.Needs.{needs}
 use Rattle.door.proofs.words.Statement.{statement}
 use Rattle.door.proofs.words.Tie as tie
@@ -49,7 +49,7 @@ add-t8 : tie.Need-add-t8
 add-t8 c = search needs
 
 returns : tie.Need-returns
-unfolding placeOf
+unfolding wordsOf
 returns c =
     let item : Record = c .before .before .before .before .before .args .item in
     ap (λ (n : ℕ). item .value ∷ (n ∷ [])) (omega arith)

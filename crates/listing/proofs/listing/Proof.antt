@@ -7,7 +7,7 @@ use Rattle.records.proofs.Laws.{long-as}
 use Rattle.listing.proofs.Answers.{listing-no, listing-yes, room}
 use Rattle.listing.specs.Steps.{Lent}
 use Rattle.listing.specs.Listings.{inPool, listingFrom}
-use Rattle.listing.specs.Asked.{recordsIn}
+use Rattle.records.specs.Sets.{listOf}
 use Rattle.listing.proofs.Kept.{by-refusal, by-shortness, by-writing}
 use Rattle.listing.proofs.listing.Statement.{statement}
 use Rattle.listing.proofs.listing.Tie as tie
@@ -39,7 +39,7 @@ short-requires : tie.Need-short-requires
 short-requires c κs = search needs
 
 returns-2 : tie.Need-returns-2
-returns-2 c = by-shortness (listingFrom inPool 0 (recordsIn (c .before .before .before .before .before .before .before .decode .result))) (c .before .before .all-length .result) (listing-yes (c .before .before .before .before .before .before .before .before .before .args .esr) (c .before .before .before .before .before .before .before .decode .result) (c .before .before .before .before .before .before .number .result) (c .before .before .before .before .before .before .before .decode .ensures) (c .before .before .before .before .before .before .number .ensures) (c .before .before .before .before .before .if1 .left)) (c .before .before .all-length .ensures) (c .before .if2 .taken) (c .short .ensures)
+returns-2 c = by-shortness (listingFrom inPool 0 (listOf (c .before .before .before .before .before .before .before .decode .result .records))) (c .before .before .all-length .result) (listing-yes (c .before .before .before .before .before .before .before .before .before .args .esr) (c .before .before .before .before .before .before .before .decode .result) (c .before .before .before .before .before .before .number .result) (c .before .before .before .before .before .before .before .decode .ensures) (c .before .before .before .before .before .before .number .ensures) (c .before .before .before .before .before .if1 .left)) (c .before .before .all-length .ensures) (c .before .if2 .taken) (c .short .ensures)
 
 pool-bytes-requires : tie.Need-pool-bytes-requires
 pool-bytes-requires c κs = search needs
@@ -59,7 +59,7 @@ same-length : tie.Need-same-length
 same-length c = search needs
 
 returns-3 : tie.Need-returns-3
-returns-3 c = by-writing (listingFrom inPool 0 (recordsIn (c .before .before .before .before .before .before .before .before .before .before .before .before .before .decode .result))) (listing-yes (c .before .before .before .before .before .before .before .before .before .before .before .before .before .before .before .args .esr) (c .before .before .before .before .before .before .before .before .before .before .before .before .before .decode .result) (c .before .before .before .before .before .before .before .before .before .before .before .before .number .result) (c .before .before .before .before .before .before .before .before .before .before .before .before .before .decode .ensures) (c .before .before .before .before .before .before .before .before .before .before .before .before .number .ensures) (c .before .before .before .before .before .before .before .before .before .before .before .if1 .left)) (c .before .before .before .before .before .before .before .before .all-length .ensures) (c .before .before .before .before .before .before .before .if2 .left) (c .before .before .put-all .ensures) refl
+returns-3 c = by-writing (listingFrom inPool 0 (listOf (c .before .before .before .before .before .before .before .before .before .before .before .before .before .decode .result .records))) (listing-yes (c .before .before .before .before .before .before .before .before .before .before .before .before .before .before .before .args .esr) (c .before .before .before .before .before .before .before .before .before .before .before .before .before .decode .result) (c .before .before .before .before .before .before .before .before .before .before .before .before .number .result) (c .before .before .before .before .before .before .before .before .before .before .before .before .before .decode .ensures) (c .before .before .before .before .before .before .before .before .before .before .before .before .number .ensures) (c .before .before .before .before .before .before .before .before .before .before .before .if1 .left)) (c .before .before .before .before .before .before .before .before .all-length .ensures) (c .before .before .before .before .before .before .before .if2 .left) (c .before .before .put-all .ensures) refl
 
 pub listing-spec : {M : Type 1} → statement M
 listing-spec =
