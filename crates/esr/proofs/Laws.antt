@@ -20,12 +20,12 @@ use Rattle.records.specs.declared.Refusal.{Refusal}
 use Rattle.records.specs.declared.Refusal.the-variants.{None, InvalidEc}
 use Rattle.records.specs.declared.Row.{Row}
 use Rattle.records.proofs.Laws.{pushed, pushedAll, pushed-all, pushed-last, pushed-count, written}
-use Rattle.layouts.specs.Shape.{Table}
-use Rattle.layouts.specs.Layouts.{layoutRoom, pad, rowsFor, checksFor, layoutFor}
-use Rattle.layouts.specs.Tables.{tableOf}
-use Rattle.layouts.specs.declared.Layout.{Layout}
-use Rattle.layouts.proofs.Sound.{Sound, sound, below}
-use Rattle.esr.specs.Decode.{topRows, reserved, empty, layoutNumber, passed, firstFailure, refused, accepted, failureFor, recordsFor, tableAnswer, classAnswer, answerOf}
+use Rattle.tables.specs.Shape.{Table}
+use Rattle.tables.specs.Layouts.{layoutRoom, pad, rowsFor, checksFor, layoutFor}
+use Rattle.tables.specs.Tables.{topRows, reserved, tableOf}
+use Rattle.tables.specs.declared.Layout.{Layout}
+use Rattle.tables.proofs.Sound.{Sound, sound, below}
+use Rattle.esr.specs.Decode.{empty, layoutNumber, passed, firstFailure, refused, accepted, failureFor, recordsFor, tableAnswer, classAnswer, answerOf}
 use Rattle.esr.specs.declared.Answer.{Answer}
 
 -- The checks.

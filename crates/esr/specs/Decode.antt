@@ -1,47 +1,22 @@
 -- What the answer to a value is, by 01's tables: "First 37..64 must be 0, then the class is looked up, then the layout's checks in the
 -- order given; the first failure answers."
 use Prim.Native.Nat.{ℕ, suc}
-use Prim.Native.String.{String}
 use mathlib.Core.Bool.{Bool, cond}
 use mathlib.Core.List.{List, [], _∷_, _++_, map}
 use lib.Dec.{eqb}
 use lib.ListN.{getD}
-use Rattle.texts.specs.Rules.{Rule, plain, className, il}
 use Rattle.records.specs.Bits.{fieldOf}
 use Rattle.records.specs.Refusals.{refusalNumber}
-use Rattle.records.specs.Rows.{recordOf, checkOf, free, coded, checked}
+use Rattle.records.specs.Rows.{recordOf, checkOf}
 use Rattle.records.specs.Sets.{recordsOf}
 use Rattle.records.specs.declared.Record.{Record}
 use Rattle.records.specs.declared.Refusal.{Refusal}
 use Rattle.records.specs.declared.Refusal.the-variants.{None, InvalidEc}
 use Rattle.records.specs.declared.Row.{Row}
-use Rattle.layouts.specs.Shape.{Table, bits, unnamed}
-use Rattle.layouts.specs.Layouts.{member, pad, rowsFor, checksFor}
-use Rattle.layouts.specs.Tables.{Served, layouts, tableOf}
+use Rattle.tables.specs.Shape.{Table}
+use Rattle.tables.specs.Layouts.{member, pad, rowsFor, checksFor}
+use Rattle.tables.specs.Tables.{reserved, topRows, Served, layouts, tableOf}
 use Rattle.esr.specs.declared.Answer.{Answer}
-
--- "Top records in order: RES0 37..64, ISS2 32..37 (unchecked), EC 26..32 with the class text, IL 25, ISS 0..25, then ISS's own."
-abbrev pub top : ℕ → ℕ → String → String → ℕ → Rule → Row
-top a b name long kind rule = bits a b name long kind rule .row
-
-abbrev pub reserved : Row
-reserved = top 37 64 "RES0" "Reserved" checked plain
-
-abbrev pub class : Row
-class = top 26 32 "EC" "Exception Class" (coded 2) className
-
--- ISS, its text by the rule that the layout has for it
-abbrev pub issUnder : ℕ → Row
-issUnder rule = let r = top 0 25 "ISS" "Instruction Specific Syndrome" free plain in (r .0, r .1, r .2, r .3, rule, r .5)
-
-unfoldable pub topRows : ℕ → List Row
-topRows rule =
-    reserved ∷
-    top 32 37 "ISS2" unnamed free plain ∷
-    class ∷
-    top 25 26 "IL" "Instruction Length" free il ∷
-    issUnder rule ∷
-    []
 
 -- "The class lookup is one table of 64 places": the number of the layout that serves a class, and a mark where none does
 abbrev pub empty : ℕ

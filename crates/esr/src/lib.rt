@@ -2,15 +2,15 @@
 ghost use Prim.Native.Nat.{_<_};
 ghost use Rattle.esr.specs.Decode.{failureFor, layoutNumber, recordsFor, refused, tableAnswer};
 ghost use Rattle.esr.specs.Promises.{Decoded};
-ghost use Rattle.layouts.specs.Tables.{tableOf};
 ghost use Rattle.records.specs.Bits.{fieldOf};
 ghost use Rattle.records.specs.Sets.{recordsOf};
+ghost use Rattle.tables.specs.Tables.{tableOf};
 ghost use mathlib.Core.Path.{_≡_};
-use layouts::numbers;
 use records::Records;
 use records::Refusal;
 use records::Row;
 use records::kinds as k;
+use tables::numbers;
 use texts::names as n;
 use texts::rules as r;
 

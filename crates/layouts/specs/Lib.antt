@@ -1,4 +1,1 @@
-pub mod Shape
-pub mod Tables
-pub mod Layouts
 pub mod Promises

@@ -1,12 +1,12 @@
 // The layouts of instruction and data aborts. Each row stands once, and a layout lists those that it has.
-ghost use Rattle.layouts.specs.Layouts.{layoutFor, member};
-ghost use Rattle.layouts.specs.Shape.{externals};
-ghost use Rattle.layouts.specs.Tables.{dataAbort, instructionAbort};
+ghost use Rattle.tables.specs.Layouts.{layoutFor, member};
+ghost use Rattle.tables.specs.Shape.{externals};
+ghost use Rattle.tables.specs.Tables.{dataAbort, instructionAbort};
 ghost use mathlib.Core.Path.{_≡_};
-use crate::Layout;
 use crate::PAD;
 use records::Row;
 use records::kinds as k;
+use tables::Layout;
 use texts::names as n;
 use texts::rules as r;
 

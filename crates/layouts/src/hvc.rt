@@ -1,11 +1,11 @@
 // The layout of SVC, HVC and SMC instructions.
-ghost use Rattle.layouts.specs.Layouts.{layoutFor};
-ghost use Rattle.layouts.specs.Tables.{hvc};
+ghost use Rattle.tables.specs.Layouts.{layoutFor};
+ghost use Rattle.tables.specs.Tables.{hvc};
 ghost use mathlib.Core.Path.{_≡_};
-use crate::Layout;
 use crate::PAD;
 use records::Row;
 use records::kinds as k;
+use tables::Layout;
 use texts::names as n;
 use texts::rules as r;
 

@@ -1,11 +1,12 @@
 // The layouts of ISS: the rows of each and when they apply. A routine for each, in a file and under a name as the Rust has them.
-ghost use Rattle.layouts.specs.Layouts.{layoutFor};
 ghost use Rattle.layouts.specs.Promises.{LayoutOf};
-ghost use Rattle.layouts.specs.Tables.{res0};
+ghost use Rattle.tables.specs.Layouts.{layoutFor};
+ghost use Rattle.tables.specs.Tables.{res0};
 ghost use mathlib.Core.Path.{_≡_};
-use records::Records;
 use records::Row;
 use records::kinds as k;
+use tables::Layout;
+use tables::numbers;
 use texts::names as n;
 use texts::rules as r;
 
@@ -18,21 +19,10 @@ mod ld64b;
 mod ldc;
 mod mcr;
 mod msr;
-pub mod numbers;
 mod pauth;
 mod serror;
 mod sve;
 mod wf;
-
-// The rows of ISS from high bits to low; the places of those to check, in order; how many there are of each; the rule of ISS's own text.
-// 130 bytes with no gap, so that a layout is copied as one block.
-pub struct Layout {
-    pub rows: [Row; Records::ISS_MAX],
-    pub checks: [u8; Records::ISS_MAX],
-    pub count: u16,
-    pub checked: u8,
-    pub rule: u8,
-}
 
 // What stands in a place of a layout that has no row.
 const PAD: Row = Row(0, 0, n::NONE, n::NONE, r::PLAIN, k::FREE);

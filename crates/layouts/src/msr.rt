@@ -1,9 +1,9 @@
 // The layout of trapped MSR, MRS and System instructions: ISS undivided, as 01 has it.
-ghost use Rattle.layouts.specs.Layouts.{layoutFor};
-ghost use Rattle.layouts.specs.Tables.{undivided};
+ghost use Rattle.tables.specs.Layouts.{layoutFor};
+ghost use Rattle.tables.specs.Tables.{undivided};
 ghost use mathlib.Core.Path.{_≡_};
-use crate::Layout;
 use crate::PAD;
+use tables::Layout;
 use texts::rules as r;
 
 const UNDIVIDED: Layout = Layout {

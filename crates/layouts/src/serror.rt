@@ -1,11 +1,11 @@
 // The layout of SError interrupts. Each row stands once, and a layout lists those that it has.
-ghost use Rattle.layouts.specs.Layouts.{layoutFor};
-ghost use Rattle.layouts.specs.Tables.{serror};
+ghost use Rattle.tables.specs.Layouts.{layoutFor};
+ghost use Rattle.tables.specs.Tables.{serror};
 ghost use mathlib.Core.Path.{_≡_};
-use crate::Layout;
 use crate::PAD;
 use records::Row;
 use records::kinds as k;
+use tables::Layout;
 use texts::names as n;
 use texts::rules as r;
 

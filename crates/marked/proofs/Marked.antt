@@ -20,9 +20,9 @@ use Rattle.records.specs.declared.Record.{Record}
 use Rattle.records.specs.declared.Refusal.{Refusal}
 use Rattle.records.specs.declared.Refusal.the-variants.{None}
 use Rattle.records.proofs.Laws.{no-refusal}
-use Rattle.layouts.specs.Layouts.{passes, rowsFor, checksFor}
-use Rattle.layouts.specs.Tables.{layouts, tableOf, res0, wf, mcr, mcrr, ldc, sve, ld64b, bti, pauth, hvc, brk, fp, breakpoint, softwareStep, watchpoint, instructionAbort, dataAbort, serror, undivided}
-use Rattle.esr.specs.Decode.{topRows, layoutNumber, firstFailure, refused, accepted as acceptedAnswer, failureFor, recordsFor, tableAnswer, classAnswer, answerOf}
+use Rattle.tables.specs.Layouts.{passes, rowsFor, checksFor}
+use Rattle.tables.specs.Tables.{topRows, layouts, tableOf, res0, wf, mcr, mcrr, ldc, sve, ld64b, bti, pauth, hvc, brk, fp, breakpoint, softwareStep, watchpoint, instructionAbort, dataAbort, serror, undivided}
+use Rattle.esr.specs.Decode.{layoutNumber, firstFailure, refused, accepted as acceptedAnswer, failureFor, recordsFor, tableAnswer, classAnswer, answerOf}
 use Rattle.esr.specs.Promises.{Decoded}
 use Rattle.esr.specs.declared.Answer.{Answer}
 use Rattle.listing.specs.Asked.{listingWith, listingOf}

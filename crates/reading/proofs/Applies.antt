@@ -12,9 +12,9 @@ use Rattle.texts.specs.Pool.{onList, says, ruleAt}
 use Rattle.records.specs.Bits.{fieldOf}
 use Rattle.records.specs.Rows.{free, unchecked}
 use Rattle.records.specs.declared.Row.{Row}
-use Rattle.layouts.specs.Shape.{Test, Condition, always, holds, _and_, _butNot_, Line}
-use Rattle.layouts.specs.Layouts.{member, passes, met, keep}
-use Rattle.layouts.specs.Tables.{Served, layouts, res0, wf, mcr, mcrr, ldc, sve, ld64b, bti, pauth, hvc, brk, fp, breakpoint, softwareStep, watchpoint, instructionAbort, dataAbort, serror, undivided}
+use Rattle.tables.specs.Shape.{Test, Condition, always, holds, _and_, _butNot_, Line}
+use Rattle.tables.specs.Layouts.{member, passes, met, keep}
+use Rattle.tables.specs.Tables.{Served, layouts, res0, wf, mcr, mcrr, ldc, sve, ld64b, bti, pauth, hvc, brk, fp, breakpoint, softwareStep, watchpoint, instructionAbort, dataAbort, serror, undivided}
 use Rattle.reading.specs.Refusing.{refusing}
 use Rattle.reading.specs.Reading.{Holding, Meets, Applying, none, there, away, Listed}
 use Rattle.reading.proofs.Own.{own-is, own-of, inner}

@@ -17,10 +17,9 @@ use Rattle.records.specs.Refusals.{refusalNumber, refusalCarries}
 use Rattle.records.specs.Rows.{free}
 use Rattle.records.specs.declared.Refusal.the-variants.{None}
 use Rattle.records.specs.declared.Row.{Row}
-use Rattle.layouts.specs.Shape.{Test, Condition, always, holds, _and_, _butNot_, Line, Table}
-use Rattle.layouts.specs.Layouts.{member}
-use Rattle.layouts.specs.Tables.{Served, layouts, res0, wf, mcr, mcrr, ldc, sve, ld64b, bti, pauth, hvc, brk, fp, breakpoint, softwareStep, watchpoint, instructionAbort, dataAbort, serror, undivided}
-use Rattle.esr.specs.Decode.{reserved, class}
+use Rattle.tables.specs.Shape.{Test, Condition, always, holds, _and_, _butNot_, Line, Table}
+use Rattle.tables.specs.Layouts.{member}
+use Rattle.tables.specs.Tables.{reserved, class, Served, layouts, res0, wf, mcr, mcrr, ldc, sve, ld64b, bti, pauth, hvc, brk, fp, breakpoint, softwareStep, watchpoint, instructionAbort, dataAbort, serror, undivided}
 use Rattle.esr.specs.Promises.{Decoded}
 use Rattle.esr.specs.declared.Answer.{Answer}
 use Rattle.reading.specs.Reading.{Own, Holding, Meets, Applying, none, there, away, Listed, Coded, Classed}

@@ -15,7 +15,7 @@ use Rattle.records.specs.Rows.{valueIn, recordOf, checkOf, asked, free, checked
 use Rattle.records.specs.declared.Record.{Record}
 use Rattle.records.specs.declared.Refusal.the-variants.{None}
 use Rattle.records.specs.declared.Row.{Row}
-use Rattle.layouts.specs.Layouts.{member}
+use Rattle.tables.specs.Layouts.{member}
 use Rattle.reading.specs.Refusing.{refusing, Unmet, notZero, notListed}
 use Rattle.reading.specs.Reading.{Allowed, Holds, HoldAll, none, more}
 use Rattle.reading.proofs.Own.{own-is, own-of, inner}

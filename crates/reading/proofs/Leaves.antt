@@ -15,8 +15,9 @@ use Rattle.records.specs.Rows.{recordOf}
 use Rattle.records.specs.declared.Refusal.the-variants.{None}
 use Rattle.records.specs.declared.Row.{Row}
 use Rattle.records.proofs.Laws.{list-of}
-use Rattle.layouts.proofs.Sound.{tiles, tiled, sound}
-use Rattle.esr.specs.Decode.{topRows, layoutNumber}
+use Rattle.tables.specs.Tables.{topRows}
+use Rattle.tables.proofs.Sound.{tiles, tiled, sound}
+use Rattle.esr.specs.Decode.{layoutNumber}
 use Rattle.esr.specs.Promises.{Decoded}
 use Rattle.esr.specs.declared.Answer.{Answer}
 use Rattle.reading.specs.Leaves.{leavesIn, leaves, Tile, done, next, shiftedBack, addedUp}

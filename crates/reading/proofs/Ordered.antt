@@ -12,8 +12,8 @@ use borrow.Author.Tests.{eq-eqb}
 use Rattle.promise.proofs.Tests.{both-left, both-right, both-intro, is-true}
 use Rattle.records.specs.Rows.{free, unchecked}
 use Rattle.records.specs.declared.Row.{Row}
-use Rattle.layouts.specs.Layouts.{asks, asking, placeOf, placesOf, pad}
-use Rattle.layouts.proofs.Sound.{tiles, tiled}
+use Rattle.tables.specs.Layouts.{asks, asking, placeOf, placesOf, pad}
+use Rattle.tables.proofs.Sound.{tiles, tiled}
 use Rattle.reading.specs.Refusing.{Asking, Ordered, none, asked, away}
 
 -- Rows that leave no gap start at different bits.

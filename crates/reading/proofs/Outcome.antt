@@ -14,10 +14,10 @@ use Rattle.records.specs.declared.Refusal.{Refusal}
 use Rattle.records.specs.declared.Refusal.the-variants.{None, InvalidEc}
 use Rattle.records.specs.declared.Row.{Row}
 use Rattle.records.proofs.Laws.{no-refusal}
-use Rattle.layouts.specs.Shape.{Table}
-use Rattle.layouts.specs.Layouts.{rowsFor}
-use Rattle.layouts.specs.Tables.{tableOf}
-use Rattle.esr.specs.Decode.{reserved, empty, layoutNumber, refused, accepted, failureFor, recordsFor, answerOf}
+use Rattle.tables.specs.Shape.{Table}
+use Rattle.tables.specs.Layouts.{rowsFor}
+use Rattle.tables.specs.Tables.{reserved, tableOf}
+use Rattle.esr.specs.Decode.{empty, layoutNumber, refused, accepted, failureFor, recordsFor, answerOf}
 use Rattle.esr.specs.declared.Answer.{Answer}
 use Rattle.esr.proofs.Laws.{read-fails, read-passes, top-fails, class-empty, class-filled}
 

@@ -21,11 +21,11 @@ use Rattle.records.specs.declared.Refusal.{Refusal}
 use Rattle.records.specs.declared.Refusal.the-variants.{None, InvalidEc}
 use Rattle.records.specs.declared.Row.{Row}
 use Rattle.records.proofs.Laws.{no-refusal}
-use Rattle.layouts.specs.Shape.{Table}
-use Rattle.layouts.specs.Layouts.{member, rowsFor, checksFor, asks, pad}
-use Rattle.layouts.specs.Tables.{Served, layouts, tableOf}
-use Rattle.layouts.proofs.Sound.{sound, covers}
-use Rattle.esr.specs.Decode.{topRows, reserved, empty, layoutNumber, passed, firstFailure, refused, accepted, failureFor, recordsFor, answerOf}
+use Rattle.tables.specs.Shape.{Table}
+use Rattle.tables.specs.Layouts.{member, rowsFor, checksFor, asks, pad}
+use Rattle.tables.specs.Tables.{topRows, reserved, Served, layouts, tableOf}
+use Rattle.tables.proofs.Sound.{sound, covers}
+use Rattle.esr.specs.Decode.{empty, layoutNumber, passed, firstFailure, refused, accepted, failureFor, recordsFor, answerOf}
 use Rattle.esr.specs.Promises.{Decoded}
 use Rattle.esr.specs.declared.Answer.{Answer}
 use Rattle.reading.specs.Reading.{HoldAll, Reading}

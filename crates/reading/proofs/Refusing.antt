@@ -20,11 +20,11 @@ use Rattle.records.specs.declared.Refusal.{Refusal}
 use Rattle.records.specs.declared.Refusal.the-variants.{None, InvalidEc}
 use Rattle.records.specs.declared.Row.{Row}
 use Rattle.records.proofs.Laws.{no-refusal}
-use Rattle.layouts.specs.Shape.{Table}
-use Rattle.layouts.specs.Layouts.{member, rowsFor, checksFor, pad}
-use Rattle.layouts.specs.Tables.{layouts}
-use Rattle.layouts.proofs.Sound.{tiled, sound}
-use Rattle.esr.specs.Decode.{reserved, class, empty, layoutNumber, passed, firstFailure, failureFor, answerOf}
+use Rattle.tables.specs.Shape.{Table}
+use Rattle.tables.specs.Layouts.{member, rowsFor, checksFor, pad}
+use Rattle.tables.specs.Tables.{reserved, class, layouts}
+use Rattle.tables.proofs.Sound.{tiled, sound}
+use Rattle.esr.specs.Decode.{empty, layoutNumber, passed, firstFailure, failureFor, answerOf}
 use Rattle.esr.specs.Promises.{Decoded}
 use Rattle.esr.specs.declared.Answer.{Answer}
 use Rattle.reading.specs.Reading.{Allowed, Reading}

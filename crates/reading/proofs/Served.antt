@@ -12,10 +12,10 @@ use Rattle.texts.specs.Rules.{className}
 use Rattle.texts.specs.Pool.{says}
 use Rattle.records.specs.Bits.{fieldOf}
 use Rattle.records.proofs.Laws.{field-lt}
-use Rattle.layouts.specs.Shape.{Table}
-use Rattle.layouts.specs.Layouts.{member}
-use Rattle.layouts.specs.Tables.{Served, layouts, tablesOf, tableOf, undivided}
-use Rattle.layouts.proofs.Sound.{served, classSound, class-sound}
+use Rattle.tables.specs.Shape.{Table}
+use Rattle.tables.specs.Layouts.{member}
+use Rattle.tables.specs.Tables.{Served, layouts, tablesOf, tableOf, undivided}
+use Rattle.tables.proofs.Sound.{served, classSound, class-sound}
 use Rattle.esr.specs.Decode.{empty, numberIn, layoutNumber}
 use Rattle.reading.specs.Reading.{Classed}
 use Rattle.reading.proofs.Own.{own-is, own-of}

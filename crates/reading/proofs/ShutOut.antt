@@ -12,9 +12,9 @@ use Rattle.records.specs.declared.Record.{Record}
 use Rattle.records.specs.declared.Records.{Records}
 use Rattle.records.specs.declared.Refusal.the-variants.{None}
 use Rattle.records.proofs.Laws.{same-list}
-use Rattle.layouts.specs.Layouts.{passes, rowsFor, checksFor}
-use Rattle.layouts.specs.Tables.{layouts, tableOf, res0, hvc}
-use Rattle.esr.specs.Decode.{topRows, layoutNumber, firstFailure, refused, accepted, failureFor, tableAnswer, classAnswer, answerOf}
+use Rattle.tables.specs.Layouts.{passes, rowsFor, checksFor}
+use Rattle.tables.specs.Tables.{topRows, layouts, tableOf, res0, hvc}
+use Rattle.esr.specs.Decode.{layoutNumber, firstFailure, refused, accepted, failureFor, tableAnswer, classAnswer, answerOf}
 use Rattle.esr.specs.declared.Answer.{Answer}
 use Rattle.reading.specs.Leaves.{leaves, addedUp}
 use Rattle.reading.specs.Told.{Told, Decoder}

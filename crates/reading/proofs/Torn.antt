@@ -7,8 +7,8 @@ use Rattle.records.specs.Bits.{fieldOf}
 use Rattle.records.specs.Refusals.{refusalNumber}
 use Rattle.records.specs.Rows.{checkOf}
 use Rattle.records.specs.declared.Refusal.the-variants.{None, InvalidRes0, InvalidEc}
-use Rattle.layouts.specs.Tables.{layouts}
-use Rattle.esr.specs.Decode.{reserved, empty, layoutNumber}
+use Rattle.tables.specs.Tables.{reserved, layouts}
+use Rattle.esr.specs.Decode.{empty, layoutNumber}
 use Rattle.esr.specs.Promises.{Decoded}
 use Rattle.esr.specs.declared.Answer.{Answer}
 use Rattle.reading.specs.Reading.{Own}

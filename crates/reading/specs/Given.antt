@@ -5,8 +5,7 @@ use mathlib.Core.Path.{_≡_}
 use Rattle.texts.specs.Rules.{debugStatus, faultStatus, serrorStatus}
 use Rattle.records.specs.Rows.{checked}
 use Rattle.records.specs.declared.Row.{Row}
-use Rattle.layouts.specs.Tables.{Served}
-use Rattle.esr.specs.Decode.{reserved}
+use Rattle.tables.specs.Tables.{reserved, Served}
 use Rattle.reading.specs.Reading.{Own, Applying, Listed, Classed}
 
 -- the class of a value is one of these

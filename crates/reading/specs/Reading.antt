@@ -9,9 +9,8 @@ use Rattle.texts.specs.Pool.{ruleAt, firstOf}
 use Rattle.records.specs.Rows.{free, checked, unchecked}
 use Rattle.records.specs.declared.Record.{Record}
 use Rattle.records.specs.declared.Row.{Row}
-use Rattle.layouts.specs.Shape.{Test, Condition, always, holds, _and_, _butNot_, Line}
-use Rattle.layouts.specs.Tables.{Served, layouts}
-use Rattle.esr.specs.Decode.{topRows}
+use Rattle.tables.specs.Shape.{Test, Condition, always, holds, _and_, _butNot_, Line}
+use Rattle.tables.specs.Tables.{topRows, Served, layouts}
 
 -- x is the value's own bits start .. start + width: with what stands above them and what stands below, they make the value
 pub record Own (v start width x : ℕ) : Type 0 where

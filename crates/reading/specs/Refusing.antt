@@ -5,8 +5,7 @@ use mathlib.Core.List.{List, [], _∷_, List·Memᴰ}
 use mathlib.Core.Path.{_≡_}
 use Rattle.records.specs.Rows.{free, checked, unchecked}
 use Rattle.records.specs.declared.Row.{Row}
-use Rattle.layouts.specs.Tables.{Served}
-use Rattle.esr.specs.Decode.{reserved, class}
+use Rattle.tables.specs.Tables.{reserved, class, Served}
 use Rattle.reading.specs.Reading.{Own, Applying, Listed, Coded, Allowed, Classed}
 
 -- the numbers that a value can be refused by: 1 to 7, and 17

@@ -12,9 +12,9 @@ use Rattle.records.specs.Rows.{recordOf}
 use Rattle.records.specs.Sets.{recordsOf}
 use Rattle.records.specs.declared.Record.{Record}
 use Rattle.records.specs.declared.Records.{Records}
-use Rattle.layouts.specs.declared.Layout.{Layout}
 use Rattle.records.proofs.Laws.{pushedAll}
-use Rattle.esr.specs.Decode.{topRows}
+use Rattle.tables.specs.declared.Layout.{Layout}
+use Rattle.tables.specs.Tables.{topRows}
 use Rattle.esr.proofs.Laws.{Fits, walked, fits, laid-records, top-count, walk-count, walk-more}
 use Rattle.esr.proofs.all_records.Statement.{statement}
 use Rattle.esr.proofs.all_records.Tie as tie

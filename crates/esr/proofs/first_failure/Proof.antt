@@ -3,7 +3,7 @@ use mathlib.Core.Path.{_≡_, sym, _∙_}
 use Prim.Native.Nat.{_-_, _≤_}
 use native.Mathlib.Omega.{arith}
 use lib.ListN.{take, drop}
-use Rattle.layouts.specs.Tables.{tableOf}
+use Rattle.tables.specs.Tables.{tableOf}
 use Rattle.esr.specs.Decode.{firstFailure, failureFor}
 use Rattle.esr.proofs.Laws.{Fits, firstLaid, fits, laid-failure, check-fails, check-passes, checks-done}
 use Rattle.esr.proofs.first_failure.Statement.{statement}

@@ -1,6 +1,6 @@
 -- The table lists the number of each class's layout: computed once, and read at any place.
 use Rattle.promise.proofs.Tests.{tab-at}
-use Rattle.layouts.specs.Tables.{layouts}
+use Rattle.tables.specs.Tables.{layouts}
 use Rattle.esr.specs.Decode.{layoutNumber}
 use borrow.Author.Needs.{needs}
 use Rattle.esr.proofs.layout_number.Statement.{statement}

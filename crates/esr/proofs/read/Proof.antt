@@ -2,7 +2,7 @@
 use mathlib.Core.Path.{sym, ap, _∙_}
 use Rattle.records.specs.declared.Records.{Records}
 use Rattle.records.specs.declared.Refusal.the-variants.{None}
-use Rattle.layouts.specs.Tables.{tableOf}
+use Rattle.tables.specs.Tables.{tableOf}
 use Rattle.esr.specs.Decode.{tableAnswer, accepted}
 use Rattle.esr.proofs.Laws.{read-fails, read-passes}
 use borrow.Author.Needs.{needs}

@@ -2,8 +2,8 @@
 use mathlib.Core.Path.{refl}
 use Rattle.texts.specs.Names.{names}
 use Rattle.texts.specs.Pool.{code, placeIn}
-use Rattle.layouts.specs.Layouts.{layoutFor, rowsFor, checksFor}
-use Rattle.layouts.specs.Tables.{res0}
+use Rattle.tables.specs.Layouts.{layoutFor, rowsFor, checksFor}
+use Rattle.tables.specs.Tables.{res0}
 use Rattle.layouts.proofs.decode_iss_res0.Statement.{statement}
 use Rattle.layouts.proofs.decode_iss_res0.Tie as tie
 

@@ -5,10 +5,10 @@ use Prim.Native.Nat.{ℕ, zero, suc, _+_, _-_, _≤_}
 use native.Mathlib.Omega.{arith}
 use lib.ListN.{getD, List·getD-eq-default}
 use Rattle.promise.proofs.Tests.{others-le}
-use Rattle.layouts.specs.Layouts.{layoutFor}
-use Rattle.layouts.specs.Tables.{tableOf, tablesOf, layouts, undivided}
-use Rattle.layouts.specs.Shape.{Table}
-use Rattle.layouts.specs.declared.Layout.{Layout}
+use Rattle.tables.specs.Layouts.{layoutFor}
+use Rattle.tables.specs.Tables.{tableOf, tablesOf, layouts, undivided}
+use Rattle.tables.specs.Shape.{Table}
+use Rattle.tables.specs.declared.Layout.{Layout}
 use Rattle.layouts.proofs.layout_of.Statement.{statement}
 use Rattle.layouts.proofs.layout_of.Tie as tie
 

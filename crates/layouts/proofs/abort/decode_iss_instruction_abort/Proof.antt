@@ -6,9 +6,9 @@ use mathlib.Core.List.{List, [], _∷_}
 use Prim.Native.Nat.{ℕ}
 use Rattle.texts.specs.Names.{names}
 use Rattle.texts.specs.Pool.{code, placeIn}
-use Rattle.layouts.specs.Shape.{Test, isSet, isStatus, isExternal}
-use Rattle.layouts.specs.Layouts.{layoutFor, passes}
-use Rattle.layouts.specs.Tables.{instructionAbort}
+use Rattle.tables.specs.Shape.{Test, isSet, isStatus, isExternal}
+use Rattle.tables.specs.Layouts.{layoutFor, passes}
+use Rattle.tables.specs.Tables.{instructionAbort}
 use Rattle.layouts.proofs.Laws.{layout-at, passes-one, fails-one, passes-bit, passes-external}
 use Rattle.layouts.proofs.abort.decode_iss_instruction_abort.Statement.{statement}
 use Rattle.layouts.proofs.abort.decode_iss_instruction_abort.Tie as tie

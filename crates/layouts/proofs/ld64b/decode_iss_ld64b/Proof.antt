@@ -2,8 +2,8 @@
 use mathlib.Core.Path.{refl}
 use Rattle.texts.specs.Names.{names}
 use Rattle.texts.specs.Pool.{code, placeIn}
-use Rattle.layouts.specs.Layouts.{layoutFor, rowsFor, checksFor}
-use Rattle.layouts.specs.Tables.{ld64b}
+use Rattle.tables.specs.Layouts.{layoutFor, rowsFor, checksFor}
+use Rattle.tables.specs.Tables.{ld64b}
 use Rattle.layouts.proofs.ld64b.decode_iss_ld64b.Statement.{statement}
 use Rattle.layouts.proofs.ld64b.decode_iss_ld64b.Tie as tie
 

@@ -2,8 +2,8 @@
 use mathlib.Core.Path.{refl}
 use Rattle.texts.specs.Names.{names}
 use Rattle.texts.specs.Pool.{code, placeIn}
-use Rattle.layouts.specs.Layouts.{layoutFor, rowsFor, checksFor}
-use Rattle.layouts.specs.Tables.{mcrr}
+use Rattle.tables.specs.Layouts.{layoutFor, rowsFor, checksFor}
+use Rattle.tables.specs.Tables.{mcrr}
 use Rattle.layouts.proofs.mcr.decode_iss_mcrr.Statement.{statement}
 use Rattle.layouts.proofs.mcr.decode_iss_mcrr.Tie as tie
 

@@ -8,8 +8,8 @@ use Rattle.texts.specs.Rules.{plain}
 use Rattle.records.specs.Bits.{fieldOf}
 use Rattle.records.specs.Rows.{free, unchecked}
 use Rattle.records.specs.declared.Row.{Row}
-use Rattle.layouts.specs.Shape.{Test, Condition, always, holds, _and_, _butNot_, Line, Table}
-use Rattle.layouts.specs.declared.Layout.{Layout}
+use Rattle.tables.specs.Shape.{Test, Condition, always, holds, _and_, _butNot_, Line, Table}
+use Rattle.tables.specs.declared.Layout.{Layout}
 
 -- a test passes at a value if the field is among the numbers
 abbrev pub member : ℕ → List ℕ → Bool

@@ -1,11 +1,37 @@
--- 01's layouts: rows from high bits to low, and the starts of the rows that ask something in the order of the checks, as 01 gives it;
--- where 01 is silent, from high to low. Above each table stands 01's line and the Arm manual's ISS encoding (DDI 0487, ESR_ELx) that it is.
+-- 01's top rows, and its layouts: rows from high bits to low, and the starts of the rows that ask something in the order of the checks, as
+-- 01 gives it; where 01 is silent, from high to low. Above each table stands 01's line and the Arm manual's ISS encoding (DDI 0487, ESR_ELx) that it is.
 use mathlib.Core.List.{List, [], _∷_}
 use Prim.Native.Nat.{ℕ}
+use Prim.Native.String.{String}
 use lib.ListN.{getD}
-use Rattle.texts.specs.Rules.{plain, issRes0, cv, rv, ti, mcrRead, offsetSign, am, ldcRead, ld64bIss, iOrD, aOrB, tfv, idf, ixf, uff, off, dzf, iof, debugStatus, stepValid, ex, watchWnR, faultStatus, setType, fnv, pfv, isv, sas, sf, ar, wu, fnp, fnpNotValid, wnr, ids, aet, serrorStatus, els, vfv, iesb, wnrv, wnrNotValid}
+use Rattle.texts.specs.Pool.{code}
+use Rattle.texts.specs.Rules.{Rule, plain, className, il, issRes0, cv, rv, ti, mcrRead, offsetSign, am, ldcRead, ld64bIss, iOrD, aOrB, tfv, idf, ixf, uff, off, dzf, iof, debugStatus, stepValid, ex, watchWnR, faultStatus, setType, fnv, pfv, isv, sas, sf, ar, wu, fnp, fnpNotValid, wnr, ids, aet, serrorStatus, els, vfv, iesb, wnrv, wnrNotValid}
 use Rattle.records.specs.Rows.{free, coded, checked, unchecked}
-use Rattle.layouts.specs.Shape.{Line, Table, bits, unnamed, _when_, _unless_, _checking_, bit, _is_, status, external, farNotValid}
+use Rattle.records.specs.declared.Row.{Row}
+use Rattle.tables.specs.Shape.{Line, Table, bits, unnamed, _when_, _unless_, _checking_, bit, _is_, status, external, farNotValid}
+
+-- "Top records in order: RES0 37..64, ISS2 32..37 (unchecked), EC 26..32 with the class text, IL 25, ISS 0..25, then ISS's own."
+abbrev pub top : ℕ → ℕ → String → String → ℕ → Rule → Row
+top a b name long kind rule = bits a b name long kind rule .row
+
+abbrev pub reserved : Row
+reserved = top 37 64 "RES0" "Reserved" checked plain
+
+abbrev pub class : Row
+class = top 26 32 "EC" "Exception Class" (coded 2) className
+
+-- ISS, its text by the rule that the layout has for it
+abbrev pub issUnder : ℕ → Row
+issUnder rule = (0, 25, code "ISS", code "Instruction Specific Syndrome", rule, free)
+
+unfoldable pub topRows : ℕ → List Row
+topRows rule =
+    reserved ∷
+    top 32 37 "ISS2" unnamed free plain ∷
+    class ∷
+    top 25 26 "IL" "Instruction Length" free il ∷
+    issUnder rule ∷
+    []
 
 -- res0 (0x00, 0x0E, 0x19, 0x22, 0x26): 0..25 zero
 -- the manual: exceptions with an unknown reason, and others whose ISS is RES0

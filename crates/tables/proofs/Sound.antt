@@ -13,10 +13,10 @@ use Rattle.texts.specs.Rules.{rules, className}
 use Rattle.texts.specs.Pool.{code, placeIn, says, onList, ruleAt}
 use Rattle.records.specs.Rows.{free, checked, unchecked}
 use Rattle.records.specs.declared.Row.{Row}
-use Rattle.layouts.specs.Shape.{Test, Condition, always, holds, _and_, _butNot_, Line, Table}
-use Rattle.layouts.specs.Layouts.{member, passes, keep, rowsFor, checksFor, asks, placesOf, layoutRoom}
-use Rattle.layouts.specs.Tables.{Served, layouts, tablesOf, tableOf, res0, wf, mcr, mcrr, ldc, sve, ld64b, bti, pauth, hvc, brk, fp, breakpoint, softwareStep, watchpoint, instructionAbort, dataAbort, serror, undivided}
-use Rattle.layouts.proofs.Laws.{known, given, knowsLines, keep-is}
+use Rattle.tables.specs.Shape.{Test, Condition, always, holds, _and_, _butNot_, Line, Table}
+use Rattle.tables.specs.Layouts.{member, passes, keep, rowsFor, checksFor, asks, placesOf, layoutRoom}
+use Rattle.tables.specs.Tables.{Served, layouts, tablesOf, tableOf, res0, wf, mcr, mcrr, ldc, sve, ld64b, bti, pauth, hvc, brk, fp, breakpoint, softwareStep, watchpoint, instructionAbort, dataAbort, serror, undivided}
+use Rattle.tables.proofs.Laws.{known, given, knowsLines, keep-is}
 
 -- rows that leave no gap from top down to 0; or there are none, and ISS is undivided
 abbrev pub tiles : ℕ → List Row → Bool

@@ -1,0 +1,3 @@
+pub mod Shape
+pub mod Tables
+pub mod Layouts
