@@ -11,6 +11,7 @@ use Rattle.records.specs.declared.Row.{Row}
 use Rattle.tables.specs.Shape.{Line, Table, bits, unnamed, _when_, _unless_, _checking_, bit, _is_, status, external, farNotValid}
 
 -- "Top records in order: RES0 37..64, ISS2 32..37 (unchecked), EC 26..32 with the class text, IL 25, ISS 0..25, then ISS's own."
+-- the manual: the field descriptions of ESR_ELx
 abbrev pub top : ℕ → ℕ → String → String → ℕ → Rule → Row
 top a b name long kind rule = bits a b name long kind rule .row
 
@@ -27,7 +28,7 @@ issUnder rule = (0, 25, code "ISS", code "Instruction Specific Syndrome", rule, 
 unfoldable pub topRows : ℕ → List Row
 topRows rule =
     reserved ∷
-    top 32 37 "ISS2" unnamed free plain ∷
+    top 32 37 "ISS2" unnamed unchecked plain ∷
     class ∷
     top 25 26 "IL" "Instruction Length" free il ∷
     issUnder rule ∷
@@ -262,7 +263,8 @@ dataAbort =
     checking 22 ∷ 21 ∷ 18 ∷ 16 ∷ 14 ∷ 0 ∷ 11 ∷ []
 
 -- SError (0x2F): 24; if 1, 0..24 free. If 0: status 0x00 or 0x11, then AET 10..13, then for 0x11: 19..24 zero; 18; 16..18; 15; 14; 13; AET;
--- 9; 8 zero; 7; 6, zero if bit 7 is 0; status. For 0x00: 14..24 zero; 13 zero; AET; 9; 6..9 zero; status
+-- 9; 8 zero; 7; 6, zero if bit 7 is 0; status. For 0x00: 14..24 zero; 13 zero; AET; 9; 6..9 zero; status.
+-- "For 0x00" is `unless status 0x11`: a status that is neither is refused by the first check, whatever the rows
 -- the manual: ISS encoding for an SError interrupt
 unfoldable pub serror : Table
 serror =
