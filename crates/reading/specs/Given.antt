@@ -3,7 +3,7 @@ use Prim.Native.Nat.{ℕ, _<_}
 use mathlib.Core.List.{List, [], _∷_, List·Memᴰ}
 use mathlib.Core.Path.{_≡_}
 use Rattle.texts.specs.Rules.{debugStatus, faultStatus, serrorStatus}
-use Rattle.records.specs.Rows.{checked}
+use Rattle.records.specs.Rows.{rowStart, rowWidth, rowKind, checked}
 use Rattle.records.specs.declared.Row.{Row}
 use Rattle.tables.specs.Tables.{reserved, Served}
 use Rattle.reading.specs.Reading.{Own, Applying, Listed, Classed}
@@ -23,8 +23,8 @@ pub data RowOf (v : ℕ) (row : Row) : Type 0 where
 pub record Reserved (v c : ℕ) : Type 0 where
   pub row : Row
   pub of : RowOf v row
-  pub kind : row .5 ≡ checked
-  pub own : Own v (row .0) (row .1) c
+  pub kind : rowKind row ≡ checked
+  pub own : Own v (rowStart row) (rowWidth row) c
 
 -- the abort classes, and those of the three debug layouts
 abbrev pub aborts : List ℕ

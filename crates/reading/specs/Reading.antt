@@ -6,7 +6,7 @@ use mathlib.Core.List.{List, [], _∷_, _++_, List·Memᴰ}
 use mathlib.Core.Path.{_≡_}
 use Rattle.texts.specs.Rules.{_says_}
 use Rattle.texts.specs.Pool.{ruleAt, firstOf}
-use Rattle.records.specs.Rows.{free, checked, unchecked}
+use Rattle.records.specs.Rows.{rowStart, rowWidth, rowName, rowLong, rowRule, rowKind, free, checked, unchecked}
 use Rattle.records.specs.declared.Record.{Record}
 use Rattle.records.specs.declared.Row.{Row}
 use Rattle.tables.specs.Shape.{Test, Condition, always, holds, _and_, _butNot_, Line}
@@ -55,18 +55,18 @@ pub record Coded (kind : ℕ) : Type 0 where
 
 -- what a row asks of its field's value: "a checked reserved field" is 0, a coded field is on its list; of others nothing
 pub record Allowed (row : Row) (value : ℕ) : Type 0 where
-  pub zero : row .5 ≡ checked → value ≡ 0
-  pub listed : Coded (row .5) → Listed (row .4) value
+  pub zero : rowKind row ≡ checked → value ≡ 0
+  pub listed : Coded (rowKind row) → Listed (rowRule row) value
 
 -- a record holds its row of a value: place and names of the row, the value's own bits, the code of what the rule says of them
 pub record Holds (v : ℕ) (row : Row) (x : Record) : Type 0 where
-  pub start : x .start ≡ row .0
-  pub width : x .width ≡ row .1
-  pub name : x .name ≡ row .2
-  pub long : x .long ≡ row .3
-  pub own : Own v (row .0) (row .1) (x .value)
-  pub said : Listed (row .4) (x .value) → x .text ≡ firstOf (row .4) + x .value
-  pub unsaid : (Listed (row .4) (x .value) → ⊥) → x .text ≡ 0
+  pub start : x .start ≡ rowStart row
+  pub width : x .width ≡ rowWidth row
+  pub name : x .name ≡ rowName row
+  pub long : x .long ≡ rowLong row
+  pub own : Own v (rowStart row) (rowWidth row) (x .value)
+  pub said : Listed (rowRule row) (x .value) → x .text ≡ firstOf (rowRule row) + x .value
+  pub unsaid : (Listed (rowRule row) (x .value) → ⊥) → x .text ≡ 0
   pub allowed : Allowed row (x .value)
 
 -- a record for each row, in order

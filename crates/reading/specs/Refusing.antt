@@ -3,7 +3,7 @@
 use Prim.Native.Nat.{ℕ}
 use mathlib.Core.List.{List, [], _∷_, List·Memᴰ}
 use mathlib.Core.Path.{_≡_}
-use Rattle.records.specs.Rows.{free, checked, unchecked}
+use Rattle.records.specs.Rows.{rowStart, rowWidth, rowRule, rowKind, free, checked, unchecked}
 use Rattle.records.specs.declared.Row.{Row}
 use Rattle.tables.specs.Tables.{reserved, class, Served}
 use Rattle.reading.specs.Reading.{Own, Applying, Listed, Coded, Allowed, Classed}
@@ -15,21 +15,21 @@ refusing = 1 ∷ 2 ∷ 3 ∷ 4 ∷ 5 ∷ 6 ∷ 7 ∷ 17 ∷ []
 -- a row's field of a value is as the row asks
 pub record Met (v : ℕ) (row : Row) : Type 0 where
   pub value : ℕ
-  pub own : Own v (row .0) (row .1) value
+  pub own : Own v (rowStart row) (rowWidth row) value
   pub allowed : Allowed row value
 
 -- it is not, and is refused by a number that carries it: "1, a checked reserved field isn't 0"; the others, a coded field is not on its
 -- list, by the number that the row names
 pub data Unmet (v : ℕ) (row : Row) (n c : ℕ) : Type 0 where
-  notZero : Own v (row .0) (row .1) c → row .5 ≡ checked → n ≡ 1 → (c ≡ 0 → ⊥) → Unmet v row n c
-  notListed : Own v (row .0) (row .1) c → Coded (row .5) → n ≡ row .5 → (Listed (row .4) c → ⊥) → Unmet v row n c
+  notZero : Own v (rowStart row) (rowWidth row) c → rowKind row ≡ checked → n ≡ 1 → (c ≡ 0 → ⊥) → Unmet v row n c
+  notListed : Own v (rowStart row) (rowWidth row) c → Coded (rowKind row) → n ≡ rowKind row → (Listed (rowRule row) c → ⊥) → Unmet v row n c
 
 -- a row of those that apply which starts at s and asks something
 pub record Asking (rows : List Row) (s : ℕ) (row : Row) : Type 0 where
   pub among : List·Memᴰ row rows
-  pub starts : row .0 ≡ s
-  pub notFree : row .5 ≡ free → ⊥
-  pub notUnchecked : row .5 ≡ unchecked → ⊥
+  pub starts : rowStart row ≡ s
+  pub notFree : rowKind row ≡ free → ⊥
+  pub notUnchecked : rowKind row ≡ unchecked → ⊥
 
 -- the rows that ask something, in the order of their starts that the table gives; a start without such a row has no check
 pub data Ordered (rows : List Row) : List ℕ → List Row → Type 0 where

@@ -10,19 +10,38 @@ use Rattle.records.specs.declared.Refusal.{Refusal}
 use Rattle.records.specs.declared.Refusal.the-variants.{None, InvalidRes0}
 use Rattle.records.specs.declared.Row.{Row}
 
+-- the columns of a row
+abbrev pub rowStart : Row → ℕ
+rowStart r = r .0
+
+abbrev pub rowWidth : Row → ℕ
+rowWidth r = r .1
+
+abbrev pub rowName : Row → ℕ
+rowName r = r .2
+
+abbrev pub rowLong : Row → ℕ
+rowLong r = r .3
+
+abbrev pub rowRule : Row → ℕ
+rowRule r = r .4
+
+abbrev pub rowKind : Row → ℕ
+rowKind r = r .5
+
 -- a row's field of a value
 abbrev pub valueIn : ℕ → Row → ℕ
-valueIn v r = fieldOf v (r .0) (r .1)
+valueIn v r = fieldOf v (rowStart r) (rowWidth r)
 
 unfoldable pub recordOf : ℕ → Row → Record
 recordOf v r =
     record {
       value = valueIn v r;
-      name = r .2;
-      long = r .3;
-      text = textCode (r .4) (valueIn v r);
-      start = r .0;
-      width = r .1;
+      name = rowName r;
+      long = rowLong r;
+      text = textCode (rowRule r) (valueIn v r);
+      start = rowStart r;
+      width = rowWidth r;
     }
 
 -- The kinds of a row, as numbers: free; coded, on the list of its text rule or refused by this number; reserved and checked; unchecked, as 01
@@ -47,4 +66,4 @@ asked kind rule value =
     (cond (eqb kind checked) (cond (eqb value 0) None (InvalidRes0 value)) (cond (says rule value) None (refusalBy kind value))))
 
 unfoldable pub checkOf : ℕ → Row → Refusal
-checkOf v r = asked (r .5) (r .4) (valueIn v r)
+checkOf v r = asked (rowKind r) (rowRule r) (valueIn v r)

@@ -6,7 +6,7 @@ use lib.Dec.{eqb}
 use lib.ListN.{length, replicate}
 use Rattle.texts.specs.Rules.{plain}
 use Rattle.records.specs.Bits.{fieldOf}
-use Rattle.records.specs.Rows.{free, unchecked}
+use Rattle.records.specs.Rows.{rowStart, rowKind, free, unchecked}
 use Rattle.records.specs.declared.Row.{Row}
 use Rattle.tables.specs.Shape.{Test, Condition, always, holds, _and_, _butNot_, Line, Table}
 use Rattle.tables.specs.declared.Layout.{Layout}
@@ -39,7 +39,7 @@ abbrev pub asks : ℕ → Bool
 asks kind = not (eqb kind free) && not (eqb kind unchecked)
 
 abbrev pub asking : ℕ → Row → Bool
-asking s r = eqb (r .0) s && asks (r .5)
+asking s r = eqb (rowStart r) s && asks (rowKind r)
 
 -- the place of the row that starts at s and asks something, counted from n; none where there is no such row
 abbrev pub placeOf : ℕ → List Row → ℕ → List ℕ
