@@ -23,10 +23,10 @@ fn put_text(buf: &mut [u8], from: usize, pool: &[u8], starts: &[u16], code: u16)
     if code == 0 {
         return out::put(buf, at, b"-");
     }
-    let length = texts::length_in(starts, code) as usize;
+    let length = lookup::length_in(starts, code) as usize;
     let mut i: usize = 0;
     while i < length {
-        let byte = [texts::byte_in(pool, starts, code, i)];
+        let byte = [lookup::byte_in(pool, starts, code, i)];
         at = out::put(buf, at, &byte);
         i += 1;
     }

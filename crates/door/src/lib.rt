@@ -111,10 +111,10 @@ fn put_text(code: u16, buf: &mut [u8])
 {
     let pool = texts::pool_bytes();
     let starts = texts::starting_places();
-    let length = texts::length_in(&starts, code) as usize;
+    let length = lookup::length_in(&starts, code) as usize;
     let mut i: usize = 0;
     while i < length {
-        buf[i] = texts::byte_in(&pool, &starts, code, i);
+        buf[i] = lookup::byte_in(&pool, &starts, code, i);
         i += 1;
     }
 }
@@ -123,7 +123,7 @@ fn put_text(code: u16, buf: &mut [u8])
 pub extern "C" fn esr_text(code: u16, buf: &mut [u8]) -> Filled
     ensures { λ r. ⌜ TextPut (code, now (buf .entry)) (r, now (buf .exit)) ⌝ }
 {
-    let length = texts::length_of(code) as usize;
+    let length = lookup::length_of(code) as usize;
     if buf.len() < length {
         return told(Refusal::ShortBuffer(length as u64), 0);
     }

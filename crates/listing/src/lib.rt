@@ -92,7 +92,7 @@ pub fn value_binary_string(width: u64, value: u64, buf: &mut [u8]) -> Written
 pub fn message(number: u64, carried: u64, buf: &mut [u8]) -> Written
     ensures { λ r. ⌜ Message (number, carried, now (buf .entry)) (r, now (buf .exit)) ⌝ }
 {
-    if !texts::says(rules::MESSAGE, number) {
+    if !lookup::says(rules::MESSAGE, number) {
         return refuse(Refusal::BadField);
     }
     let starts = texts::starting_places();

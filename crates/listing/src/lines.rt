@@ -20,7 +20,7 @@ pub(crate) fn line_length(starts: &[u16], item: Record) -> usize
     ensures { λ r. ⌜ (r ≡ length (lineText item)) × (r ≤ 70000) ⌝ }
 {
     let width = item.width;
-    let name = texts::length_in(starts, item.name) as usize;
+    let name = lookup::length_in(starts, item.name) as usize;
     name + 2 + value_length(width, item.value) + behind_length(width)
 }
 
@@ -66,7 +66,7 @@ fn text_length(starts: &[u16], index: usize, code: u16) -> usize
     if code == 0 {
         return 0;
     }
-    let text = texts::length_in(starts, code) as usize;
+    let text = lookup::length_in(starts, code) as usize;
     indent_length(index) + 2 + text + 1
 }
 

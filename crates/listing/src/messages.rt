@@ -15,9 +15,9 @@ pub(crate) fn message_length(starts: &[u16], number: u64, carried: u64) -> usize
     requires { ⌜ now starts ≡ placesOf ⌝ }
     ensures { λ r. ⌜ r ≡ length (messageText number carried) ⌝ }
 {
-    let front = texts::text_code(rules::MESSAGE, number);
-    let end = texts::text_code(rules::MESSAGE_END, number);
-    let words = texts::length_in(starts, front) as usize + texts::length_in(starts, end) as usize;
+    let front = lookup::text_code(rules::MESSAGE, number);
+    let end = lookup::text_code(rules::MESSAGE_END, number);
+    let words = lookup::length_in(starts, front) as usize + lookup::length_in(starts, end) as usize;
     words + 2 + unpadded_length(carried)
 }
 
@@ -31,8 +31,8 @@ pub(crate) fn put_message(
     requires { ⌜ Lent (now pool) (now starts) × (length (messageText number carried) ≤ length (now buf)) ⌝ }
     ensures { λ r. ⌜ Wrote (now (buf .entry)) 0 (messageText number carried) r (now (buf .exit)) ⌝ }
 {
-    let front = texts::text_code(rules::MESSAGE, number);
-    let end = texts::text_code(rules::MESSAGE_END, number);
+    let front = lookup::text_code(rules::MESSAGE, number);
+    let end = lookup::text_code(rules::MESSAGE_END, number);
     let a = put_text(buf, 0, pool, starts, front);
     let b = put_bytes(buf, a, b"0x");
     let c = put_digits(buf, b, 16, unpadded_length(carried), carried);

@@ -21,7 +21,7 @@ pub(crate) fn put_text(buf: &mut [u8], at: usize, pool: &[u8], starts: &[u16], c
     requires { ⌜ Lent (now pool) (now starts) × (at + length (bytesAt code) ≤ length (now buf)) ⌝ }
     ensures { λ r. ⌜ Wrote (now (buf .entry)) at (bytesAt code) r (now (buf .exit)) ⌝ }
 {
-    let n = texts::length_in(starts, code) as usize;
+    let n = lookup::length_in(starts, code) as usize;
     if n == 0 {
         return at;
     }

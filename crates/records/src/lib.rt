@@ -148,7 +148,7 @@ impl Row {
             value,
             name: self.2,
             long: self.3,
-            text: texts::text_code(self.4, value),
+            text: lookup::text_code(self.4, value),
             start: self.0,
             width: self.1,
         }
@@ -172,7 +172,7 @@ impl Row {
             }
             return Refusal::InvalidRes0(value);
         }
-        if texts::says(self.4, value) {
+        if lookup::says(self.4, value) {
             return Refusal::None;
         }
         Refusal::numbered(kind, value)

@@ -1,5 +1,4 @@
 pub mod Names
 pub mod Rules
 pub mod Pool
-pub mod Sayings
 pub mod Promises

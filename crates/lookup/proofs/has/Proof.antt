@@ -5,10 +5,10 @@ use Prim.Native.Nat.{ℕ, _/_, _%_, _^_}
 use lib.Bits.{and-mask}
 use lib.Dec.{eqb, ltb}
 use borrow.Author.Tests.{lt-ltb, le-ltb}
-use Rattle.texts.specs.Sayings.{bitIn}
+use Rattle.lookup.specs.Sayings.{bitIn}
 use borrow.Author.Needs.{needs}
-use Rattle.texts.proofs.has.Statement.{statement}
-use Rattle.texts.proofs.has.Tie as tie
+use Rattle.lookup.proofs.has.Statement.{statement}
+use Rattle.lookup.proofs.has.Tie as tie
 
 shr-result : tie.Need-shr-result
 shr-result c = search needs

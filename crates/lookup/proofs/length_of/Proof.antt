@@ -1,10 +1,10 @@
 -- In the pool's own places the length is the text's.
 use mathlib.Core.Path.{ap, _∙_}
 use Rattle.texts.specs.Pool.{lengthIn}
 use Rattle.texts.proofs.Laws.{length-at}
 use borrow.Author.Needs.{needs}
-use Rattle.texts.proofs.length_of.Statement.{statement}
-use Rattle.texts.proofs.length_of.Tie as tie
+use Rattle.lookup.proofs.length_of.Statement.{statement}
+use Rattle.lookup.proofs.length_of.Tie as tie
 
 starting-places-requires : tie.Need-starting-places-requires
 starting-places-requires c κs = search needs

@@ -1,11 +1,11 @@
 -- The rule's bits say which values it has a text for.
 use mathlib.Core.Path.{ap, _∙_}
-use Rattle.texts.specs.Sayings.{bitIn}
-use Rattle.texts.specs.declared.Saying.{Saying}
-use Rattle.texts.proofs.Numbers.{bit-in}
+use Rattle.lookup.specs.Sayings.{bitIn}
+use Rattle.lookup.specs.declared.Saying.{Saying}
+use Rattle.lookup.proofs.Numbers.{bit-in}
 use borrow.Author.Needs.{needs}
-use Rattle.texts.proofs.says.Statement.{statement}
-use Rattle.texts.proofs.says.Tie as tie
+use Rattle.lookup.proofs.says.Statement.{statement}
+use Rattle.lookup.proofs.says.Tie as tie
 
 in-numbers-requires : tie.Need-in-numbers-requires
 in-numbers-requires c κs = search needs

@@ -11,12 +11,12 @@ use lib.ListN.{length, getD, take, List·getD-eq-default}
 use lib.Seq.{take-all}
 use borrow.Author.Tests.{ltb-true, ltb-false}
 use Rattle.promise.proofs.Tests.{both-left, both-right, from, from-at}
 use Rattle.texts.specs.Names.{names}
 use Rattle.texts.specs.Rules.{Rule, plain, rules}
 use Rattle.texts.specs.Pool.{onList, ruleAt, says, placesOf, nameRoom, firstOf}
-use Rattle.texts.specs.Sayings.{bit, bitsOf, numbersOf, bitIn}
-use Rattle.texts.specs.declared.Saying.{Saying}
+use Rattle.lookup.specs.Sayings.{bit, bitsOf, numbersOf, bitIn}
+use Rattle.lookup.specs.declared.Saying.{Saying}
 use Rattle.texts.proofs.Laws.{places-small, says-below}
 
 bit-lt : (b : Bool) → bit b < 2
 bit-lt true = omega arith

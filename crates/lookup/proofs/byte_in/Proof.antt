@@ -5,11 +5,11 @@ use native.Mathlib.Omega.{arith}
 use mathlib.Core.List.{List}
 use lib.ListN.{getD, length, List·getD-eq-default}
 use borrow.Author.Tests.{lt-ltb, le-ltb}
 use Rattle.texts.specs.Pool.{byteIn, lengthIn}
 use Rattle.texts.proofs.Laws.{in-places}
 use borrow.Author.Needs.{needs}
-use Rattle.texts.proofs.byte_in.Statement.{statement}
-use Rattle.texts.proofs.byte_in.Tie as tie
+use Rattle.lookup.proofs.byte_in.Statement.{statement}
+use Rattle.lookup.proofs.byte_in.Tie as tie
 
 module _ (pool starts : List ℕ) (code i : ℕ) where
   past-text : lengthIn starts code ≤ i → 0 ≡ byteIn pool starts code i

@@ -4,13 +4,13 @@ use mathlib.Core.Bool.{Bool, true, false, cond}
 use Prim.Native.Nat.{ℕ, _+_, _<_}
 use native.Mathlib.Omega.{arith}
 use Rattle.promise.proofs.Tests.{is-true}
 use Rattle.texts.specs.Pool.{says, firstOf, textCode}
-use Rattle.texts.specs.Sayings.{bitIn, numbersOf}
-use Rattle.texts.specs.declared.Saying.{Saying}
-use Rattle.texts.proofs.Numbers.{bit-in, says-small, first-le}
+use Rattle.lookup.specs.Sayings.{bitIn, numbersOf}
+use Rattle.lookup.specs.declared.Saying.{Saying}
+use Rattle.lookup.proofs.Numbers.{bit-in, says-small, first-le}
 use borrow.Author.Needs.{needs}
-use Rattle.texts.proofs.text_code.Statement.{statement}
-use Rattle.texts.proofs.text_code.Tie as tie
+use Rattle.lookup.proofs.text_code.Statement.{statement}
+use Rattle.lookup.proofs.text_code.Tie as tie
 
 told : (rule value : ℕ) (s : Saying) (b t : Bool) → s ≡ numbersOf rule → b ≡ bitIn (s .0) value → b ≡ t → says rule value ≡ t
 told rule value s b t is has tested = sym (bit-in rule value) ∙ ap (λ (x : Saying). bitIn (x .0) value) (sym is) ∙ sym has ∙ tested

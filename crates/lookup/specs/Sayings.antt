@@ -2,8 +2,8 @@
 use Prim.Native.Nat.{ℕ, zero, suc, _+_, _*_, _/_, _%_, _^_}
 use mathlib.Core.Bool.{Bool, true, false, cond}
 use lib.Dec.{eqb, ltb}
 use Rattle.texts.specs.Pool.{says, firstOf}
-use Rattle.texts.specs.declared.Saying.{Saying}
+use Rattle.lookup.specs.declared.Saying.{Saying}
 
 abbrev pub bit : Bool → ℕ
 bit true = 1

@@ -5,13 +5,13 @@ use mathlib.Core.Path.{_≡_, refl, sym, ap, _∙_}
 use Prim.Native.Nat.{ℕ}
 use native.Mathlib.Omega.{arith}
 use Rattle.promise.proofs.Tests.{others-le}
 use Rattle.texts.specs.Rules.{rules}
 use Rattle.texts.specs.Pool.{onList, ruleAt, says, placesOf, firstOf}
-use Rattle.texts.specs.Sayings.{bitsOf, numbersOf}
-use Rattle.texts.specs.declared.Saying.{Saying}
-use Rattle.texts.proofs.Numbers.{one-bit, no-rule}
-use Rattle.texts.proofs.in_numbers.Statement.{statement}
-use Rattle.texts.proofs.in_numbers.Tie as tie
+use Rattle.lookup.specs.Sayings.{bitsOf, numbersOf}
+use Rattle.lookup.specs.declared.Saying.{Saying}
+use Rattle.lookup.proofs.Numbers.{one-bit, no-rule}
+use Rattle.lookup.proofs.in_numbers.Statement.{statement}
+use Rattle.lookup.proofs.in_numbers.Tie as tie
 
 arm : (k n : ℕ) (s : Saying) → n ≡ k → s ≡ numbersOf k → s ≡ numbersOf n
 arm k n s e h = h ∙ ap numbersOf (sym e)

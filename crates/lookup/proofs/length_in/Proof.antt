@@ -1,11 +1,11 @@
 -- The length is the next place less this one; past the last place it is 0, and where the next is not behind, the difference is 0.
 use mathlib.Core.Path.{sym}
 use native.Mathlib.Omega.{arith}
 use Rattle.texts.specs.Pool.{lengthIn}
 use Rattle.texts.proofs.Laws.{past-places}
 use borrow.Author.Needs.{needs}
-use Rattle.texts.proofs.length_in.Statement.{statement}
-use Rattle.texts.proofs.length_in.Tie as tie
+use Rattle.lookup.proofs.length_in.Statement.{statement}
+use Rattle.lookup.proofs.length_in.Tie as tie
 
 add-if1 : tie.Need-add-if1
 add-if1 c = search needs

@@ -1,0 +1,2 @@
+pub mod Sayings
+pub mod Promises
