@@ -1,41 +1,84 @@
 -- Laws of digits, of one step and of the fold, which the functions' proofs cite: each says what a definition gives under the tests
 -- that the code made.
-use Prim.Native.Nat.{ℕ, _+_, _-_, _*_, _/_, _^_, _≤_, _<_}
+use Prim.Native.Nat.{ℕ, _+_, _-_, _*_, _/_, _%_, _^_, _≤_, _<_}
 use mathlib.Core.Bool.{Bool, true, false, false≢true, cond, _&&_, and-true, and-false}
 use mathlib.Core.List.{List, [], _∷_}
 use mathlib.Core.Logic.{_⊎_, inl, inr}
-use mathlib.Core.Path.{_≡_, refl, sym, ap, _∙_}
-use native.Mathlib.Nat.{le-div-iff-mul-le, div-lt-iff-lt-mul, le-of-suc-le-suc, not-suc-le-zero}
+use mathlib.Core.Path.{_≡_, refl, sym, ap, subst, _∙_}
+use native.Mathlib.Nat.{zero-add, add-mul, le-div-iff-mul-le, div-lt-iff-lt-mul, le-of-suc-le-suc, not-suc-le-zero}
 use native.Mathlib.Numerals.{add-one}
 use native.Mathlib.Omega.{arith}
-use lib.Dec.{eqb, leb, ltb}
+use lib.Bits.{bitAnd}
+use lib.Dec.{T, eqb, leb, ltb, eqb→eq, leb→le}
 use lib.ListN.{length, getD, take, drop, length-drop}
 use lib.Seq.{drop-cons, drop-length, take-all}
-use borrow.Author.Tests.{ltb-true, ltb-false, leb-false, lt-ltb, le-ltb, le-leb, lt-leb, eq-eqb, ne-eqb}
+use borrow.Author.Tests.{eqb-true, ltb-true, ltb-false, leb-false, lt-ltb, le-ltb, le-leb, lt-leb, eq-eqb, ne-eqb}
 use Rattle.number.specs.Digits.{baseOf, digitOf, noDigit}
 use Rattle.number.specs.Numbers.{stateOf, startOf, refused, grown, stepOf, stepsOf, startsWith, isHex, unsigned, numberFrom, numberIn, numberOf}
 use Rattle.number.specs.declared.NumberState.{NumberState}
+use Rattle.promise.proofs.Tests.{from, from-at}
 use Rattle.records.proofs.Laws.{no-refusal}
 use Rattle.records.specs.Refusals.{refusalNumber}
 use Rattle.records.specs.declared.Refusal.{Refusal}
 use Rattle.records.specs.declared.Refusal.the-variants.{None, InvalidDigit, PosOverflow}
 
--- Digits.
+-- Digits: a character is counted from "0", and in base 16 past "9" from "A" without bit 5; what the count tells is computed for every byte.
+
+-- what a count tells of a character: below the base it is the digit's worth, and from there on there is no digit
+abbrev pub Told : ℕ → ℕ → ℕ → Type 0
+Told base b w = (w < base → w ≡ digitOf b) × (base ≤ w → base ≤ digitOf b)
+
+abbrev tells : ℕ → ℕ → ℕ → Bool
+tells base b w = cond (ltb w base) (eqb w (digitOf b)) (leb base (digitOf b))
+
+told : (base b w : ℕ) → T (tells base b w) → Told base b w
+told base b w t = by-test (ltb w base) refl t
+  where
+    by-test : (s : Bool) → ltb w base ≡ s → T (cond s (eqb w (digitOf b)) (leb base (digitOf b))) → Told base b w
+    by-test true e u = let d = eqb→eq w (digitOf b) u in let l = ltb-true w base e in omega arith
+    by-test false e u = let d = leb→le base (digitOf b) u in let l = ltb-false w base e in omega arith
+
+abbrev pub butCase : ℕ
+butCase = 2 ^ 64 - 1 - 2 ^ 5
+
+abbrev from-zero : ℕ → ℕ → Bool
+from-zero base b = tells base b ((b + (2 ^ 64 - 48)) % 2 ^ 64)
+
+abbrev from-a : ℕ → Bool
+from-a b = tells 16 b (10 + bitAnd ((b + (2 ^ 64 - 65)) % 2 ^ 64) butCase)
+
+decimals : T (from (from-zero 10) 0 256)
+unfolding digitOf
+decimals = tt
+
+figures : T (from (from-zero 16) 0 58)
+unfolding digitOf
+figures = tt
+
+letters : T (from from-a 58 198)
+unfolding digitOf
+letters = tt
+
+module _ (b w : ℕ) (hb : b < 2 ^ 8) (hw : w < 2 ^ 64) where
+  told-from-zero : (base n : ℕ) → T (from (from-zero base) 0 n) → b < n → (w + 48) % 2 ^ 64 ≡ b → Told base b w
+  told-from-zero base n t h e =
+      let counted : (b + (2 ^ 64 - 48)) % 2 ^ 64 ≡ w = omega arith in
+      subst (Told base b) counted (told base b _ (subst (λ k. T (from-zero base k)) (zero-add b) (from-at (from-zero base) 0 n b t h)))
+
+  pub told-decimal : (w + 48) % 2 ^ 64 ≡ b → Told 10 b w
+  told-decimal e = told-from-zero 10 256 decimals hb e
+
+  pub told-figure : b ≤ 57 → (w + 48) % 2 ^ 64 ≡ b → Told 16 b w
+  told-figure h e = told-from-zero 16 58 figures (omega arith) e
+
+  pub told-letter : 57 < b → (w + 65) % 2 ^ 64 ≡ b → Told 16 b (10 + bitAnd w butCase)
+  told-letter l e =
+      let counted : (b + (2 ^ 64 - 65)) % 2 ^ 64 ≡ w = omega arith in
+      let place : 58 + (b - 58) ≡ b = omega arith in
+      subst (λ v. Told 16 b (10 + bitAnd v butCase)) counted
+      (told 16 b _ (subst (λ k. T (from-a k)) place (from-at from-a 58 198 (b - 58) letters (omega arith))))
 
 module _ (b : ℕ) where
-  pub digit-decimal : 48 ≤ b → b ≤ 57 → digitOf b ≡ b - 48
-  unfolding digitOf
-  digit-decimal l h = simp (le-leb 48 b l, le-leb b 57 h)
-
-  pub digit-small : 97 ≤ b → b ≤ 102 → digitOf b ≡ 10 + (b - 97)
-  unfolding digitOf
-  digit-small l h = simp (le-leb 48 b (omega arith), lt-leb b 57 (omega arith), le-leb 97 b l, le-leb b 102 h)
-
-  pub digit-large : 65 ≤ b → b ≤ 70 → digitOf b ≡ 10 + (b - 65)
-  unfolding digitOf
-  digit-large l h =
-      simp (le-leb 48 b (omega arith), lt-leb b 57 (omega arith), lt-leb 97 b (omega arith), le-leb 65 b l, le-leb b 70 h)
-
   abbrev Outside : ℕ → ℕ → Type 0
   Outside low high = (b < low) ⊎ (high < b)
 
@@ -56,31 +99,47 @@ fits v k d m hk hd h = let g : v * k ≤ m - d = le-div-iff-mul-le hk .0 h in om
 pub over : (v k d m : ℕ) → 0 < k → d ≤ m → (m - d) / k < v → m < v * k + d
 over v k d m hk hd h = let g : m - d < v * k = div-lt-iff-lt-mul hk .0 h in omega arith
 
+-- below m / k every digit fits
+pub roomy : (v k d m : ℕ) → 0 < k → d < k → v < m / k → v * k + d ≤ m
+roomy v k d m hk hd h = let g : (v + 1) * k ≤ m = le-div-iff-mul-le hk .0 (omega arith) in omega (arith, add-mul v 1 k)
+
 pub base-pos : (hex : Bool) {k : ℕ} → k ≡ baseOf hex → 0 < k
 base-pos true e = omega arith
 base-pos false e = omega arith
 
-pub step-refused : (st : NumberState) (b : ℕ) → (refusalNumber (st .refusal) ≡ 0 → ⊥) → stepOf st b ≡ st
+pub step-refused : (st : NumberState) (b : ℕ) → refused (st .refusal) ≡ true → stepOf st b ≡ st
 unfolding stepOf
-step-refused st b h = simp (ne-eqb _ _ h)
+step-refused st b h = simp h
 
-module _ (st : NumberState) (b d k : ℕ) (hd : d ≡ digitOf b) (hk : k ≡ baseOf (st .hex)) (free : refusalNumber (st .refusal) ≡ 0) where
+-- no refusal, as a number
+unrefused : (r : Refusal) → refused r ≡ false → refusalNumber r ≡ 0
+unrefused r h = by-test (eqb (refusalNumber r) 0) refl
+  where
+    by-test : (t : Bool) → eqb (refusalNumber r) 0 ≡ t → refusalNumber r ≡ 0
+    by-test true e = eqb-true _ _ e
+    by-test false e = absurd (false≢true (sym h ∙ simp e))
+
+-- the digit is told by a count
+module _ (st : NumberState) (b d k : ℕ) (hd : Told (baseOf (st .hex)) b d) (hk : k ≡ baseOf (st .hex)) (free : refused (st .refusal) ≡ false) where
+  digit : d < k → d ≡ digitOf b
+  digit h = hd .0 (omega arith)
+
   pub step-no-digit : k ≤ d → stepOf st b ≡ stateOf (st .hex) 0 InvalidDigit
   unfolding stepOf
-  step-no-digit h = rw (← hd, ← hk) (simp (eq-eqb _ _ free, le-leb _ _ h))
+  step-no-digit h = rw (← hk) (simp (free, le-leb k (digitOf b) (omega (arith, hd .1 (omega arith)))))
 
   pub step-over : d < k → 2 ^ 64 - 1 < st .value * k + d → stepOf st b ≡ stateOf (st .hex) 0 PosOverflow
   unfolding stepOf
-  step-over h o = rw (← hd, ← hk) (simp (eq-eqb _ _ free, lt-leb _ _ h, lt-ltb _ _ o))
+  step-over h o = rw (← digit h, ← hk) (simp (free, lt-leb _ _ h, lt-ltb _ _ o))
 
   pub step-grown : d < k → st .value * k + d ≤ 2 ^ 64 - 1 → stepOf st b ≡ stateOf (st .hex) (st .value * k + d) (st .refusal)
   unfolding stepOf
-  step-grown h o = rw (← hd, ← hk, no-refusal (st .refusal) free) (simp (lt-leb _ _ h, le-ltb _ _ o))
+  step-grown h o = rw (← digit h, ← hk, no-refusal (st .refusal) (unrefused (st .refusal) free)) (simp (lt-leb _ _ h, le-ltb _ _ o))
 
 -- a step that is accepted
 pub step-on : (hex : Bool) (v b : ℕ) → digitOf b < baseOf hex → v * baseOf hex + digitOf b < 2 ^ 64
     → stepOf (stateOf hex v None) b ≡ stateOf hex (v * baseOf hex + digitOf b) None
-step-on hex v b d f = step-grown (stateOf hex v None) b (digitOf b) (baseOf hex) refl refl refl d (omega arith)
+step-on hex v b d f = step-grown (stateOf hex v None) b (digitOf b) (baseOf hex) (λ h. refl, λ h. h) refl refl d (omega arith)
 
 -- what holds of a state by each case of a step holds after it
 module _ (st : NumberState) (b : ℕ) (P : NumberState → Type 0) where
@@ -110,7 +169,7 @@ module _ (st : NumberState) (b : ℕ) (P : NumberState → Type 0) where
       by-refused true e = stays e
       by-refused false e = by-digit (leb (baseOf (st .hex)) (digitOf b)) refl
 
--- The fold: one turn of the loop, and its end.
+-- The fold: one turn of the loop, its end, and its end at a refusal.
 
 pub steps-more : (st : NumberState) (s : List ℕ) (i : ℕ) → i < length s
     → stepsOf st (drop i s) ≡ stepsOf (stepOf st (getD s i 0)) (drop (i + 1) s)
@@ -120,6 +179,12 @@ steps-more st s i h = rw (add-one, drop-cons s i 0)
 pub steps-done : (st : NumberState) (s : List ℕ) (i : ℕ) → i ≡ length s → stepsOf st (drop i s) ≡ st
 unfolding stepsOf
 steps-done st s i h = rw (h, drop-length)
+
+-- the first offender answers: what stands behind it changes nothing
+pub steps-refused : (st : NumberState) (s : List ℕ) → refused (st .refusal) ≡ true → stepsOf st s ≡ st
+unfolding stepsOf stepOf
+steps-refused st [] h = refl
+steps-refused st (b ∷ s) h = rw h (steps-refused st s h)
 
 -- The whole input.
 

@@ -11,7 +11,7 @@ use native.Mathlib.Omega.{arith}
 use lib.ListN.{length, replicate, length-append}
 use lib.Dec.{T, eqb, ltb, lt→ltb, ltb→lt}
 use borrow.Author.Tests.{eqb-false, ne-eqb}
-use Rattle.number.proofs.Laws.{base-pos, digit-none, step-by, step-on, unsigned-bare, unsigned-plus, number-some, number-plain}
+use Rattle.number.proofs.Laws.{base-pos, digit-none, step-by, step-on, steps-refused, unsigned-bare, unsigned-plus, number-some, number-plain}
 use Rattle.promise.proofs.Tests.{both-left, both-right, both-intro}
 use Rattle.number.specs.Digits.{baseOf, digitOf, noDigit}
 use Rattle.number.specs.Numbers.{stateOf, startOf, refused, stepOf, stepsOf, startsWith, isHex, unprefixed, unsigned, digitsIn, numberFrom, numberIn, numberOf}
@@ -32,12 +32,6 @@ pub steps-append : (st : NumberState) (s t : List ℕ) → stepsOf st (s ++ t) �
 unfolding stepsOf
 steps-append st [] t = refl
 steps-append st (b ∷ s) t = steps-append (stepOf st b) s t
-
--- the first offender answers: what stands behind it changes nothing
-pub steps-refused : (st : NumberState) (s : List ℕ) → refused (st .refusal) ≡ true → stepsOf st s ≡ st
-unfolding stepsOf stepOf
-steps-refused st [] h = refl
-steps-refused st (b ∷ s) h = rw h (steps-refused st s h)
 
 never-accepted : (st : NumberState) (s : List ℕ) → refused (st .refusal) ≡ true → stepsOf st s .refusal ≡ None → ⊥
 never-accepted st s h e =

@@ -1,12 +1,17 @@
 // Reads a number as Rust's library does: an optional "0x", an optional "+", then digits, the state after each handed on to the next.
+ghost use Prim.Native.Nat.{_<_, _≤_};
 ghost use Rattle.number.specs.Digits.{baseOf, digitOf};
-ghost use Rattle.number.specs.Numbers.{isHex, numberIn, stateOf, stepsOf, unsigned};
+ghost use Rattle.number.specs.Numbers.{isHex, numberIn, refused, stateOf, stepsOf, unsigned};
 ghost use Rattle.number.specs.Promises.{Parsed, Started, Stepped};
 ghost use mathlib.Core.Path.{_≡_};
 use records::Refusal;
+use std::num::wrapping_sub_u64;
 
-// The value of a character that is no digit: below neither base.
-const NO_DIGIT: u64 = 16;
+// All bits but bit 5, in which alone small letters differ from large ones.
+const BUT_CASE: u64 = 0xFFFF_FFFF_FFFF_FFDF;
+
+// The most that a result may be.
+const MOST: u64 = 0xFFFF_FFFF_FFFF_FFFF;
 
 // The value so far, the base, and the first refusal; a refused state has the value 0.
 pub struct NumberState {
@@ -27,15 +32,17 @@ fn base_of(hex: bool) -> u64
     if hex { 16 } else { 10 }
 }
 
-fn digit_of(b: u8) -> u64
-    ensures { λ r. ⌜ r ≡ digitOf b ⌝ }
+// Below the base the count is the digit, and from there on there is none: what stands before "0" or "A" wraps. It is counted and not told by
+// ranges, since which of them a character lies in cannot be foreseen.
+fn digit_of(hex: bool, b: u8) -> u64
+    ensures { λ r. ⌜ (r < baseOf hex → r ≡ digitOf b) × (baseOf hex ≤ r → baseOf hex ≤ digitOf b) ⌝ }
 {
-    match b {
-        b'0'..=b'9' => (b - b'0') as u64,
-        b'a'..=b'f' => 10 + (b - b'a') as u64,
-        b'A'..=b'F' => 10 + (b - b'A') as u64,
-        _ => NO_DIGIT,
+    if hex {
+        if b'9' < b {
+            return 10 + (wrapping_sub_u64(b as u64, b'A' as u64) & BUT_CASE);
+        }
     }
+    wrapping_sub_u64(b as u64, b'0' as u64)
 }
 
 impl NumberState {
@@ -59,27 +66,36 @@ impl NumberState {
         }
     }
 
-    // Whether the next value fits is asked by a division, before there is a sum that could pass 64 bits.
+    fn is_refused(self) -> bool
+        ensures { λ r. ⌜ r ≡ refused (self .refusal) ⌝ }
+    {
+        let refusal = self.refusal;
+        refusal.number() != 0
+    }
+
+    // Whether the next value fits is asked before there is a sum that could pass 64 bits; below MOST / base every digit does, whatever it is.
     pub fn step(mut self, b: u8) -> Self
         ensures { λ r. ⌜ Stepped (self, b) r ⌝ }
     {
-        let refusal = self.refusal;
-        if refusal.number() != 0 {
+        if self.is_refused() {
             return self;
         }
-        let digit = digit_of(b);
+        let digit = digit_of(self.hex, b);
         let base = base_of(self.hex);
         if base <= digit {
             return self.refused(Refusal::InvalidDigit);
         }
-        if (0xFFFF_FFFF_FFFF_FFFF - digit) / base < self.value {
-            return self.refused(Refusal::PosOverflow);
+        if MOST / base <= self.value {
+            if (MOST - digit) / base < self.value {
+                return self.refused(Refusal::PosOverflow);
+            }
         }
         self.value = self.value * base + digit;
         self
     }
 }
 
+// It ends at a refusal, since what stands behind the first offender changes nothing.
 fn steps(from: NumberState, s: &[u8]) -> NumberState
     ensures { λ r. ⌜ r ≡ stepsOf from (now (s .entry)) ⌝ }
 {
@@ -87,6 +103,9 @@ fn steps(from: NumberState, s: &[u8]) -> NumberState
     let mut i = 0;
     while i < s.len() {
         state = state.step(s[i]);
+        if state.is_refused() {
+            return state;
+        }
         i += 1;
     }
     state

@@ -1,61 +1,47 @@
--- Each arm of the match is a range of characters; what is left lies outside all three.
-use mathlib.Core.Logic.{inl, inr}
-use mathlib.Core.Path.{sym}
+-- A character is counted from "0" or from "A": what the count tells is computed for each of the 256.
+use mathlib.Core.Logic.{⊎-elim}
 use native.Mathlib.Omega.{arith}
-use Rattle.number.proofs.Laws.{digit-decimal, digit-large, digit-small, digit-none}
+use lib.Bits.{and-le-r}
+use Rattle.number.proofs.Laws.{butCase, told-decimal, told-figure, told-letter}
 use borrow.Author.Needs.{needs}
 use Rattle.number.proofs.digit_of.Statement.{statement}
 use Rattle.number.proofs.digit_of.Tie as tie
 
-cast-result : tie.Need-cast-result
-cast-result c = search needs
+cast-wrapping-sub-u64 : tie.Need-cast-wrapping-sub-u64
+cast-wrapping-sub-u64 c = search needs
 
-cast-result-2 : tie.Need-cast-result-2
-cast-result-2 c = search needs
+wrapping-sub-u64-requires : tie.Need-wrapping-sub-u64-requires
+wrapping-sub-u64-requires c κs = search needs
 
 add-result : tie.Need-add-result
-add-result c = search needs
-
-cast-result-3 : tie.Need-cast-result-3
-cast-result-3 c = search needs
-
-add-result-2 : tie.Need-add-result-2
-add-result-2 c = search needs
+add-result c = omega (arith, and-le-r (c .wrapping-sub-u64 .result) butCase)
 
 returns : tie.Need-returns
-returns c = sym (digit-decimal _ (omega arith) (omega arith))
+returns c =
+    rw (c .before .before .if1 .taken)
+    (told-letter _ _ (search needs) (search needs) (c .before .if2 .taken) (c .wrapping-sub-u64 .ensures))
+
+cast-wrapping-sub-u64-2 : tie.Need-cast-wrapping-sub-u64-2
+cast-wrapping-sub-u64-2 c = search needs
+
+wrapping-sub-u64-requires-2 : tie.Need-wrapping-sub-u64-requires-2
+wrapping-sub-u64-requires-2 c κs = search needs
 
 returns-2 : tie.Need-returns-2
-returns-2 c = sym (digit-large _ (omega arith) (omega arith))
-
-returns-3 : tie.Need-returns-3
-returns-3 c = sym (digit-small _ (omega arith) (omega arith))
-
-returns-4 : tie.Need-returns-4
-returns-4 c = sym (digit-none _ (inl (omega arith)) (inl (omega arith)) (inl (omega arith)))
-
-returns-5 : tie.Need-returns-5
-returns-5 c = sym (digit-none _ (inr (omega arith)) (inl (omega arith)) (inl (omega arith)))
-
-returns-6 : tie.Need-returns-6
-returns-6 c = sym (digit-none _ (inr (omega arith)) (inr (omega arith)) (inl (omega arith)))
-
-returns-7 : tie.Need-returns-7
-returns-7 c = sym (digit-none _ (inr (omega arith)) (inr (omega arith)) (inr (omega arith)))
+returns-2 c =
+    ⊎-elim
+    (λ w. rw (w .0 .taken) (told-figure _ _ (search needs) (search needs) (w .1 .left) (c .wrapping-sub-u642 .ensures)))
+    (λ w. rw (w .left) (told-decimal _ _ (search needs) (search needs) (c .wrapping-sub-u642 .ensures)))
+    (c .before .if1 .came)
 
 pub digit-of-spec : {M : Type 1} → statement M
 digit-of-spec =
     tie.close
     (tie.spec
-    cast-result
-    cast-result-2
+    cast-wrapping-sub-u64
+    wrapping-sub-u64-requires
     add-result
-    cast-result-3
-    add-result-2
     returns
-    returns-2
-    returns-3
-    returns-4
-    returns-5
-    returns-6
-    returns-7)
+    cast-wrapping-sub-u64-2
+    wrapping-sub-u64-requires-2
+    returns-2)
