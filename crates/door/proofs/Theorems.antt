@@ -11,11 +11,11 @@ use lib.Seq.{length-take-le}
 use borrow.Author.Tests.{eqb-true, eqb-false}
 use Rattle.entry.proofs.Laws.{facts, body-sound, body-refused}
 use Rattle.entry.specs.Entries.{judged, sound, bodyOf}
-use Rattle.esr.specs.Decode.{passed, answerOf}
+use Rattle.esr.specs.Decode.{answerOf}
 use Rattle.listing.specs.Outcomes.{Outcome, refused, text, refusal, answered, left}
 use Rattle.listing.specs.declared.Written.{Written}
 use Rattle.records.specs.Bits.{fieldOf}
-use Rattle.records.specs.Refusals.{refusalNumber}
+use Rattle.records.specs.Refusals.{refusalNumber, passed}
 use Rattle.records.specs.declared.Record.{Record}
 use Rattle.records.specs.declared.Refusal.the-variants.{None, ShortBuffer}
 use Rattle.door.specs.Answers.{toldAs, entryTold}

@@ -6,7 +6,7 @@ use lib.Dec.{eqb, ltb}
 use lib.ListN.{length}
 use Rattle.entry.specs.BigEndian.{bigEndian, bytesAt, written}
 use Rattle.entry.specs.declared.Entry.{Entry}
-use Rattle.records.specs.Refusals.{refusalNumber}
+use Rattle.records.specs.Refusals.{passed}
 use Rattle.records.specs.declared.Refusal.{Refusal}
 use Rattle.records.specs.declared.Refusal.the-variants.{None, ShortEntry, BadLength, BadVersion}
 
@@ -34,7 +34,7 @@ judged s =
     None))))
 
 abbrev pub sound : List ℕ → Bool
-sound s = eqb (refusalNumber (judged s)) 0
+sound s = passed (judged s)
 
 -- the numbers of a sound entry; on a refusal each is 0
 unfoldable pub entryOf : List ℕ → Entry

@@ -11,7 +11,7 @@ use lib.Seq.{take-suc, drop-cons, getD-take, length-take-le, drop-length, take-a
 use borrow.Author.Tests.{eq-eqb, ne-eqb}
 use Rattle.promise.proofs.Tests.{every, every-at, both-left, both-right}
 use Rattle.records.specs.Bits.{fieldOf}
-use Rattle.records.specs.Refusals.{refusalNumber}
+use Rattle.records.specs.Refusals.{refusalNumber, passed}
 use Rattle.records.specs.Rows.{recordOf, checkOf}
 use Rattle.records.specs.Sets.{setRoom, noRecord, recordsOf}
 use Rattle.records.specs.declared.Record.{Record}
@@ -25,7 +25,7 @@ use Rattle.tables.specs.Layouts.{layoutRoom, pad, rowsFor, checksFor, layoutFor
 use Rattle.tables.specs.Tables.{topRows, reserved, tableOf}
 use Rattle.tables.specs.declared.Layout.{Layout}
 use Rattle.tables.proofs.Sound.{Sound, sound, below}
-use Rattle.esr.specs.Decode.{empty, layoutNumber, passed, firstFailure, refused, accepted, failureFor, recordsFor, tableAnswer, classAnswer, answerOf}
+use Rattle.esr.specs.Decode.{empty, layoutNumber, firstFailure, refused, accepted, failureFor, recordsFor, tableAnswer, classAnswer, answerOf}
 use Rattle.esr.specs.declared.Answer.{Answer}
 
 -- The checks.

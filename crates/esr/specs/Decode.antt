@@ -1,12 +1,12 @@
 -- What the answer to a value is, by 01's tables: "First 37..64 must be 0, then the class is looked up, then the layout's checks in the
 -- order given; the first failure answers."
 use Prim.Native.Nat.{ℕ, suc}
-use mathlib.Core.Bool.{Bool, cond}
+use mathlib.Core.Bool.{cond}
 use mathlib.Core.List.{List, [], _∷_, _++_, map}
 use lib.Dec.{eqb}
 use lib.ListN.{getD}
 use Rattle.records.specs.Bits.{fieldOf}
-use Rattle.records.specs.Refusals.{refusalNumber}
+use Rattle.records.specs.Refusals.{passed}
 use Rattle.records.specs.Rows.{recordOf, checkOf}
 use Rattle.records.specs.Sets.{recordsOf}
 use Rattle.records.specs.declared.Record.{Record}
@@ -30,9 +30,6 @@ unfoldable pub layoutNumber : ℕ → ℕ
 layoutNumber c = numberIn 0 layouts c
 
 -- the first of the checks that fails; a check is the place of a row
-abbrev pub passed : Refusal → Bool
-passed f = eqb (refusalNumber f) 0
-
 unfoldable pub firstFailure : ℕ → List Row → List ℕ → Refusal
 firstFailure v rows [] = None
 firstFailure v rows (k ∷ ks) = cond (passed (checkOf v (getD rows k pad))) (firstFailure v rows ks) (checkOf v (getD rows k pad))

@@ -93,7 +93,7 @@ const CLASS: [u8; 64] = [
 
 const RES0: Row = Row(37, 27, n::RES0, n::RES0_LONG, r::PLAIN, k::CHECKED);
 
-const ISS2: Row = Row(32, 5, n::ISS2, n::NONE, r::PLAIN, k::UNCHECKED);
+const ISS2: Row = Row(32, 5, n::ISS2, n::NONE, r::PLAIN, k::FREE);
 
 const EC: Row = Row(26, 6, n::EC, n::EC_LONG, r::CLASS_NAME, k::EC);
 

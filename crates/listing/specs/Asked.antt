@@ -5,10 +5,11 @@ use mathlib.Core.Bool.{cond}
 use mathlib.Core.List.{List}
 use lib.Dec.{ltb}
 use lib.ListN.{length, getD}
+use Rattle.records.specs.Refusals.{passed}
 use Rattle.records.specs.Sets.{noRecord, listOf}
 use Rattle.records.specs.declared.Record.{Record}
 use Rattle.records.specs.declared.Refusal.the-variants.{BadField, BadIndex}
-use Rattle.esr.specs.Decode.{passed, answerOf}
+use Rattle.esr.specs.Decode.{answerOf}
 use Rattle.listing.specs.Fields.{valueText, binaryText, lineText, fits}
 use Rattle.listing.specs.Listings.{Phrase, inPool, listingFrom}
 use Rattle.listing.specs.Messages.{messageText, hasMessage}

@@ -8,7 +8,7 @@ use lib.ListN.{length, drop}
 use Rattle.number.specs.Digits.{baseOf, digitOf}
 use Rattle.number.specs.declared.Number.{Number}
 use Rattle.number.specs.declared.NumberState.{NumberState}
-use Rattle.records.specs.Refusals.{refusalNumber}
+use Rattle.records.specs.Refusals.{passed}
 use Rattle.records.specs.declared.Refusal.{Refusal}
 use Rattle.records.specs.declared.Refusal.the-variants.{None, Empty, InvalidDigit, PosOverflow}
 
@@ -22,7 +22,7 @@ abbrev pub startOf : Bool → NumberState
 startOf hex = stateOf hex 0 None
 
 abbrev pub refused : Refusal → Bool
-refused refusal = not (eqb (refusalNumber refusal) 0)
+refused refusal = not (passed refusal)
 
 -- the result with one digit more
 abbrev pub grown : NumberState → ℕ → ℕ

@@ -13,7 +13,7 @@ use Rattle.promise.proofs.Tests.{every, both-left, both-right, true-is}
 use Rattle.texts.specs.Rules.{className}
 use Rattle.texts.specs.Pool.{says}
 use Rattle.records.specs.Bits.{fieldOf}
-use Rattle.records.specs.Refusals.{refusalNumber, refusalBy}
+use Rattle.records.specs.Refusals.{refusalNumber, passed, refusalBy}
 use Rattle.records.specs.Rows.{recordOf, checkOf, free, unchecked}
 use Rattle.records.specs.Sets.{recordsOf}
 use Rattle.records.specs.declared.Record.{Record}
@@ -25,7 +25,7 @@ use Rattle.tables.specs.Shape.{Table}
 use Rattle.tables.specs.Layouts.{member, rowsFor, checksFor, asks, pad}
 use Rattle.tables.specs.Tables.{topRows, reserved, Served, layouts, tableOf}
 use Rattle.tables.proofs.Sound.{sound, covers}
-use Rattle.esr.specs.Decode.{empty, layoutNumber, passed, firstFailure, refused, accepted, failureFor, recordsFor, answerOf}
+use Rattle.esr.specs.Decode.{empty, layoutNumber, firstFailure, refused, accepted, failureFor, recordsFor, answerOf}
 use Rattle.esr.specs.Promises.{Decoded}
 use Rattle.esr.specs.declared.Answer.{Answer}
 use Rattle.reading.specs.Reading.{HoldAll, Reading}

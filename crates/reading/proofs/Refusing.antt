@@ -13,7 +13,7 @@ use Rattle.promise.proofs.Tests.{every, both-left, both-right, both-intro, true
 use Rattle.texts.specs.Rules.{className}
 use Rattle.texts.specs.Pool.{says}
 use Rattle.records.specs.Bits.{fieldOf}
-use Rattle.records.specs.Refusals.{refusalNumber, refusalCarries, refusalBy}
+use Rattle.records.specs.Refusals.{refusalNumber, passed, refusalCarries, refusalBy}
 use Rattle.records.specs.Rows.{valueIn, checkOf}
 use Rattle.records.specs.declared.Record.{Record}
 use Rattle.records.specs.declared.Refusal.{Refusal}
@@ -24,7 +24,7 @@ use Rattle.tables.specs.Shape.{Table}
 use Rattle.tables.specs.Layouts.{member, rowsFor, checksFor, pad}
 use Rattle.tables.specs.Tables.{reserved, class, layouts}
 use Rattle.tables.proofs.Sound.{tiled, sound}
-use Rattle.esr.specs.Decode.{empty, layoutNumber, passed, firstFailure, failureFor, answerOf}
+use Rattle.esr.specs.Decode.{empty, layoutNumber, firstFailure, failureFor, answerOf}
 use Rattle.esr.specs.Promises.{Decoded}
 use Rattle.esr.specs.declared.Answer.{Answer}
 use Rattle.reading.specs.Reading.{Allowed, Reading}

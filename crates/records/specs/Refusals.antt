@@ -1,6 +1,8 @@
 -- 01's table of refusals: the number of each, and what it carries.
 use Prim.Native.Nat.{ℕ}
+use mathlib.Core.Bool.{Bool}
 use mathlib.Core.List.{List, [], _∷_}
+use lib.Dec.{eqb}
 use lib.ListN.{getD}
 use Rattle.records.specs.declared.Refusal.{Refusal}
 use Rattle.records.specs.declared.Refusal.the-variants.{None, InvalidRes0, InvalidEc, InvalidFsc, InvalidSet, InvalidAet, InvalidAm, InvalidLd64bIss, Empty, InvalidDigit, PosOverflow, ShortBuffer, BadField, BadIndex, ShortEntry, BadLength, BadVersion, Unreached}
@@ -25,6 +27,10 @@ refusalNumber ShortEntry = 14
 refusalNumber BadLength = 15
 refusalNumber BadVersion = 16
 refusalNumber (Unreached c) = 17
+
+-- nothing is refused
+abbrev pub passed : Refusal → Bool
+passed f = eqb (refusalNumber f) 0
 
 abbrev pub refusalCarries : Refusal → ℕ
 refusalCarries None = 0

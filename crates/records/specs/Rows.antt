@@ -44,8 +44,8 @@ recordOf v r =
       width = rowWidth r;
     }
 
--- The kinds of a row, as numbers: free; coded, on the list of its text rule or refused by this number; reserved and checked; unchecked, as 01
--- calls ISS2 and the RES0 of 11..13. 1 is the number of the refusal of a reserved field that is not 0.
+-- The kinds of a row, as numbers: free; coded, on the list of its text rule or refused by this number; reserved and checked; reserved and
+-- unchecked, as 11..13 in aborts without SET. 1 is the number of the refusal of a reserved field that is not 0.
 abbrev pub free : ℕ
 free = 0
 

@@ -1,5 +1,6 @@
 -- 01's top rows, and its layouts: rows from high bits to low, and the starts of the rows that ask something in the order of the checks, as
--- 01 gives it; where 01 is silent, from high to low. Above each table stands 01's line and the Arm manual's ISS encoding (DDI 0487, ESR_ELx) that it is.
+-- 01 gives it; where 01 is silent, from high to low. Above each table stands 01's line and the Arm manual's ISS encoding (DDI 0487, ESR_ELx) that it is,
+-- from memory: the manual was not at hand.
 use mathlib.Core.List.{List, [], _∷_}
 use Prim.Native.Nat.{ℕ}
 use Prim.Native.String.{String}
@@ -11,7 +12,7 @@ use Rattle.records.specs.declared.Row.{Row}
 use Rattle.tables.specs.Shape.{Line, Table, bits, unnamed, _when_, _unless_, _checking_, bit, _is_, status, external, farNotValid}
 
 -- "Top records in order: RES0 37..64, ISS2 32..37 (unchecked), EC 26..32 with the class text, IL 25, ISS 0..25, then ISS's own."
--- the manual: the field descriptions of ESR_ELx
+-- the manual: the field descriptions of ESR_ELx. ISS2 is free: nothing is asked of it, which is 01's "(unchecked)", and it is not reserved.
 abbrev pub top : ℕ → ℕ → String → String → ℕ → Rule → Row
 top a b name long kind rule = bits a b name long kind rule .row
 
@@ -28,7 +29,7 @@ issUnder rule = (0, 25, code "ISS", code "Instruction Specific Syndrome", rule, 
 unfoldable pub topRows : ℕ → List Row
 topRows rule =
     reserved ∷
-    top 32 37 "ISS2" unnamed unchecked plain ∷
+    top 32 37 "ISS2" unnamed free plain ∷
     class ∷
     top 25 26 "IL" "Instruction Length" free il ∷
     issUnder rule ∷
