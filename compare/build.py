@@ -81,6 +81,14 @@ def absent(sources):
     return True
 
 
+def runner():
+    """What stands before one of our programs, which are for x86-64: on another processor, the toolchain's emulator and loader."""
+    if platform.machine() == "x86_64":
+        return []
+    tools = Path(shutil.which("rt")).resolve().parent.parent / "on" / platform.machine() / "toolchain"
+    return [tools / "bin" / "qemu-x86_64", tools / "lib" / "ld-linux-x86-64.so.2", "--library-path", tools / "lib"]
+
+
 def version_of(compiler):
     try:
         said = subprocess.run([compiler, "--version"], capture_output=True, text=True).stdout

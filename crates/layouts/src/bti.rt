@@ -9,32 +9,31 @@ use tables::Layout;
 use texts::names as n;
 use texts::rules as r;
 
-const BTI: Layout = Layout {
-    rows: [
-        Row(2, 23, n::RES0, n::RES0_LONG, r::PLAIN, k::CHECKED),
-        Row(0, 2, n::BTYPE, n::BTYPE_LONG, r::PLAIN, k::FREE),
-        PAD,
-        PAD,
-        PAD,
-        PAD,
-        PAD,
-        PAD,
-        PAD,
-        PAD,
-        PAD,
-        PAD,
-        PAD,
-        PAD,
-    ],
-    count: 2,
-    checks: [0, 0, 0, 0, 0, 0, 0, 0, 0, 0, 0, 0, 0, 0],
-    checked: 1,
-    rule: r::PLAIN,
-};
-
 // Class 0x0D.
 pub(crate) fn decode_iss_bti(iss: u64) -> Layout
     ensures { λ r. ⌜ r ≡ layoutFor bti iss ⌝ }
 {
-    BTI
+    let pad = PAD;
+    Layout {
+        rows: [
+            Row(2, 23, n::RES0, n::RES0_LONG, r::PLAIN, k::CHECKED),
+            Row(0, 2, n::BTYPE, n::BTYPE_LONG, r::PLAIN, k::FREE),
+            pad,
+            pad,
+            pad,
+            pad,
+            pad,
+            pad,
+            pad,
+            pad,
+            pad,
+            pad,
+            pad,
+            pad,
+        ],
+        count: 2,
+        checks: [0, 0, 0, 0, 0, 0, 0, 0, 0, 0, 0, 0, 0, 0],
+        checked: 1,
+        rule: r::PLAIN,
+    }
 }

@@ -9,32 +9,31 @@ use tables::Layout;
 use texts::names as n;
 use texts::rules as r;
 
-const HVC: Layout = Layout {
-    rows: [
-        Row(16, 9, n::RES0, n::RES0_LONG, r::PLAIN, k::CHECKED),
-        Row(0, 16, n::IMM16, n::IMM16_LONG, r::PLAIN, k::FREE),
-        PAD,
-        PAD,
-        PAD,
-        PAD,
-        PAD,
-        PAD,
-        PAD,
-        PAD,
-        PAD,
-        PAD,
-        PAD,
-        PAD,
-    ],
-    count: 2,
-    checks: [0, 0, 0, 0, 0, 0, 0, 0, 0, 0, 0, 0, 0, 0],
-    checked: 1,
-    rule: r::PLAIN,
-};
-
 // Classes 0x11, 0x15, 0x16, 0x17.
 pub(crate) fn decode_iss_hvc(iss: u64) -> Layout
     ensures { λ r. ⌜ r ≡ layoutFor hvc iss ⌝ }
 {
-    HVC
+    let pad = PAD;
+    Layout {
+        rows: [
+            Row(16, 9, n::RES0, n::RES0_LONG, r::PLAIN, k::CHECKED),
+            Row(0, 16, n::IMM16, n::IMM16_LONG, r::PLAIN, k::FREE),
+            pad,
+            pad,
+            pad,
+            pad,
+            pad,
+            pad,
+            pad,
+            pad,
+            pad,
+            pad,
+            pad,
+            pad,
+        ],
+        count: 2,
+        checks: [0, 0, 0, 0, 0, 0, 0, 0, 0, 0, 0, 0, 0, 0],
+        checked: 1,
+        rule: r::PLAIN,
+    }
 }

@@ -9,32 +9,31 @@ use tables::Layout;
 use texts::names as n;
 use texts::rules as r;
 
-const LD64B: Layout = Layout {
-    rows: [
-        Row(0, 25, n::ISS, n::NONE, r::LD64B_ISS, k::LD64B_ISS),
-        PAD,
-        PAD,
-        PAD,
-        PAD,
-        PAD,
-        PAD,
-        PAD,
-        PAD,
-        PAD,
-        PAD,
-        PAD,
-        PAD,
-        PAD,
-    ],
-    count: 1,
-    checks: [0, 0, 0, 0, 0, 0, 0, 0, 0, 0, 0, 0, 0, 0],
-    checked: 1,
-    rule: r::PLAIN,
-};
-
 // Class 0x0A.
 pub(crate) fn decode_iss_ld64b(iss: u64) -> Layout
     ensures { λ r. ⌜ r ≡ layoutFor ld64b iss ⌝ }
 {
-    LD64B
+    let pad = PAD;
+    Layout {
+        rows: [
+            Row(0, 25, n::ISS, n::NONE, r::LD64B_ISS, k::LD64B_ISS),
+            pad,
+            pad,
+            pad,
+            pad,
+            pad,
+            pad,
+            pad,
+            pad,
+            pad,
+            pad,
+            pad,
+            pad,
+            pad,
+        ],
+        count: 1,
+        checks: [0, 0, 0, 0, 0, 0, 0, 0, 0, 0, 0, 0, 0, 0],
+        checked: 1,
+        rule: r::PLAIN,
+    }
 }

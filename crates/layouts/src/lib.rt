@@ -24,37 +24,37 @@ mod serror;
 mod sve;
 mod wf;
 
-// What stands in a place of a layout that has no row.
+// What stands in a place of a layout that has no row. A routine copies it from a local: a constant is built anew wherever it is named, and
+// the proof of the routine grows by each.
 const PAD: Row = Row(0, 0, n::NONE, n::NONE, r::PLAIN, k::FREE);
-
-const RES0: Layout = Layout {
-    rows: [
-        Row(0, 25, n::RES0, n::RES0_LONG, r::ISS_RES0, k::CHECKED),
-        PAD,
-        PAD,
-        PAD,
-        PAD,
-        PAD,
-        PAD,
-        PAD,
-        PAD,
-        PAD,
-        PAD,
-        PAD,
-        PAD,
-        PAD,
-    ],
-    count: 1,
-    checks: [0, 0, 0, 0, 0, 0, 0, 0, 0, 0, 0, 0, 0, 0],
-    checked: 1,
-    rule: r::PLAIN,
-};
 
 // Classes 0x00, 0x0E, 0x19, 0x22, 0x26.
 fn decode_iss_res0(iss: u64) -> Layout
     ensures { λ r. ⌜ r ≡ layoutFor res0 iss ⌝ }
 {
-    RES0
+    let pad = PAD;
+    Layout {
+        rows: [
+            Row(0, 25, n::RES0, n::RES0_LONG, r::ISS_RES0, k::CHECKED),
+            pad,
+            pad,
+            pad,
+            pad,
+            pad,
+            pad,
+            pad,
+            pad,
+            pad,
+            pad,
+            pad,
+            pad,
+            pad,
+        ],
+        count: 1,
+        checks: [0, 0, 0, 0, 0, 0, 0, 0, 0, 0, 0, 0, 0, 0],
+        checked: 1,
+        rule: r::PLAIN,
+    }
 }
 
 // The layout of a number, for this ISS; a number of no layout has the undivided one.

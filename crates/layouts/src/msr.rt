@@ -6,32 +6,31 @@ use crate::PAD;
 use tables::Layout;
 use texts::rules as r;
 
-const UNDIVIDED: Layout = Layout {
-    rows: [
-        PAD,
-        PAD,
-        PAD,
-        PAD,
-        PAD,
-        PAD,
-        PAD,
-        PAD,
-        PAD,
-        PAD,
-        PAD,
-        PAD,
-        PAD,
-        PAD,
-    ],
-    count: 0,
-    checks: [0, 0, 0, 0, 0, 0, 0, 0, 0, 0, 0, 0, 0, 0],
-    checked: 0,
-    rule: r::PLAIN,
-};
-
 // Class 0x18.
 pub(crate) fn decode_iss_msr(iss: u64) -> Layout
     ensures { λ r. ⌜ r ≡ layoutFor undivided iss ⌝ }
 {
-    UNDIVIDED
+    let pad = PAD;
+    Layout {
+        rows: [
+            pad,
+            pad,
+            pad,
+            pad,
+            pad,
+            pad,
+            pad,
+            pad,
+            pad,
+            pad,
+            pad,
+            pad,
+            pad,
+            pad,
+        ],
+        count: 0,
+        checks: [0, 0, 0, 0, 0, 0, 0, 0, 0, 0, 0, 0, 0, 0],
+        checked: 0,
+        rule: r::PLAIN,
+    }
 }

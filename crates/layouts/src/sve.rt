@@ -9,32 +9,31 @@ use tables::Layout;
 use texts::names as n;
 use texts::rules as r;
 
-const SVE: Layout = Layout {
-    rows: [
-        Row(24, 1, n::CV, n::CV_LONG, r::CV, k::FREE),
-        Row(20, 4, n::COND, n::COND_LONG, r::PLAIN, k::FREE),
-        Row(0, 20, n::RES0, n::RES0_LONG, r::PLAIN, k::CHECKED),
-        PAD,
-        PAD,
-        PAD,
-        PAD,
-        PAD,
-        PAD,
-        PAD,
-        PAD,
-        PAD,
-        PAD,
-        PAD,
-    ],
-    count: 3,
-    checks: [2, 0, 0, 0, 0, 0, 0, 0, 0, 0, 0, 0, 0, 0],
-    checked: 1,
-    rule: r::PLAIN,
-};
-
 // Class 0x07.
 pub(crate) fn decode_iss_sve(iss: u64) -> Layout
     ensures { λ r. ⌜ r ≡ layoutFor sve iss ⌝ }
 {
-    SVE
+    let pad = PAD;
+    Layout {
+        rows: [
+            Row(24, 1, n::CV, n::CV_LONG, r::CV, k::FREE),
+            Row(20, 4, n::COND, n::COND_LONG, r::PLAIN, k::FREE),
+            Row(0, 20, n::RES0, n::RES0_LONG, r::PLAIN, k::CHECKED),
+            pad,
+            pad,
+            pad,
+            pad,
+            pad,
+            pad,
+            pad,
+            pad,
+            pad,
+            pad,
+            pad,
+        ],
+        count: 3,
+        checks: [2, 0, 0, 0, 0, 0, 0, 0, 0, 0, 0, 0, 0, 0],
+        checked: 1,
+        rule: r::PLAIN,
+    }
 }
