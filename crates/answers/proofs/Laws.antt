@@ -6,8 +6,8 @@ use mathlib.Core.Path.{_≡_, refl}
 use native.Mathlib.Omega.{arith}
 use lib.Dec.{leb}
 use lib.ListN.{length, drop, length-append}
-use Rattle.listing.specs.Outcomes.{Outcome, refused, text, answered, left, refusal, Answers}
-use Rattle.listing.specs.declared.Written.{Written}
+use Rattle.strings.specs.Outcomes.{Outcome, refused, text, answered, left, refusal, Answers}
+use Rattle.strings.specs.declared.Written.{Written}
 use Rattle.records.specs.declared.Refusal.the-variants.{None, ShortBuffer}
 
 fitting : (o : Outcome) (before : List ℕ) → answered o before .bytes ≤ length (left o before)

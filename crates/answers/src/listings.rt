@@ -3,8 +3,8 @@ ghost use Prim.Native.Nat.{_≤_};
 ghost use lib.ListN.{length};
 use super::numbers::put_value;
 use super::refusals::put_refusal;
-use listing::Written;
 use number::Number;
+use strings::Written;
 
 fn listing_in(esr: u64, text: &mut [u8]) -> Written
     ensures { λ r. ⌜ r .bytes ≤ length (now (text .exit)) ⌝ }

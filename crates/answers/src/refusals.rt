@@ -1,8 +1,8 @@
 // A refusal by its number, and in words: the Rust's message where there is one, else words of our own.
 ghost use Prim.Native.Nat.{_≤_};
 ghost use lib.ListN.{length};
-use listing::Written;
 use records::Refusal;
+use strings::Written;
 
 // More than any message takes.
 const MESSAGE: usize = 128;
@@ -28,7 +28,7 @@ fn put_words(buf: &mut [u8], from: usize, number: u8) -> usize {
 fn message_in(refusal: Refusal, text: &mut [u8]) -> Written
     ensures { λ r. ⌜ r .bytes ≤ length (now (text .exit)) ⌝ }
 {
-    listing::message(refusal.number() as u64, refusal.carries(), text)
+    strings::message(refusal.number() as u64, refusal.carries(), text)
 }
 
 // The message of a refused value; other refusals have none.

@@ -4,7 +4,7 @@ use mathlib.Core.Bool.{cond}
 use mathlib.Core.List.{List, _++_}
 use lib.Dec.{leb}
 use lib.ListN.{length, drop}
-use Rattle.listing.specs.Outcomes.{Outcome, answered, left}
+use Rattle.strings.specs.Outcomes.{Outcome, answered, left}
 use Rattle.records.specs.declared.Refusal.{Refusal}
 use Rattle.records.specs.declared.Refusal.the-variants.{None, ShortBuffer}
 use Rattle.door.specs.Answers.{toldAs}
@@ -23,6 +23,6 @@ filling content before =
     (toldAs None (length content), front content before)
     (refusing (ShortBuffer (length content)) before)
 
--- a text of the crate `listing`, or its refusal: its own answer in numbers, and the buffer as it leaves it
+-- a text of the crates `strings` and `listing`, or its refusal: its own answer in numbers, and the buffer as it leaves it
 unfoldable pub telling : Outcome → List ℕ → Filled × List ℕ
 telling o before = (toldAs (answered o before .refusal) (answered o before .bytes), left o before)

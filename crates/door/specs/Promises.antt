@@ -3,7 +3,8 @@
 use Prim.Native.Nat.{ℕ}
 use mathlib.Core.List.{List}
 use mathlib.Core.Path.{_≡_}
-use Rattle.listing.specs.Asked.{valueString, binaryString, messageOf, recordLine, listingOf}
+use Rattle.listing.specs.Asked.{recordLine, listingOf}
+use Rattle.strings.specs.Asked.{valueString, binaryString, messageOf}
 use Rattle.texts.specs.Pool.{bytesAt}
 use Rattle.door.specs.Answers.{numberTold, entryTold}
 use Rattle.door.specs.Buffers.{filling, telling}

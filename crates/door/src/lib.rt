@@ -12,10 +12,10 @@ ghost use lib.Dec.{eqb};
 ghost use lib.ListN.{length};
 ghost use mathlib.Core.Bool.{cond};
 ghost use mathlib.Core.Path.{_≡_};
-use listing::Written;
 use records::Record;
 use records::Records;
 use records::Refusal;
+use strings::Written;
 
 // How many places or bytes the front of the caller's array now holds; none on a refusal.
 #[repr(C)]
@@ -56,7 +56,7 @@ fn told(refusal: Refusal, count: usize) -> Filled
     }
 }
 
-// What a function of `listing` wrote, or refused.
+// What a function of `strings` or `listing` wrote, or refused.
 fn told_text(written: Written) -> Filled
     ensures { λ r. ⌜ r ≡ toldAs (written .refusal) (written .bytes) ⌝ }
 {
@@ -135,21 +135,21 @@ pub extern "C" fn esr_text(code: u16, buf: &mut [u8]) -> Filled
 pub extern "C" fn esr_value_string(width: u64, value: u64, buf: &mut [u8]) -> Filled
     ensures { λ r. ⌜ ValuePut (width, value, now (buf .entry)) (r, now (buf .exit)) ⌝ }
 {
-    told_text(listing::value_string(width, value, buf))
+    told_text(strings::value_string(width, value, buf))
 }
 
 #[no_mangle]
 pub extern "C" fn esr_value_binary_string(width: u64, value: u64, buf: &mut [u8]) -> Filled
     ensures { λ r. ⌜ BinaryPut (width, value, now (buf .entry)) (r, now (buf .exit)) ⌝ }
 {
-    told_text(listing::value_binary_string(width, value, buf))
+    told_text(strings::value_binary_string(width, value, buf))
 }
 
 #[no_mangle]
 pub extern "C" fn esr_message(number: u64, carried: u64, buf: &mut [u8]) -> Filled
     ensures { λ r. ⌜ MessagePut (number, carried, now (buf .entry)) (r, now (buf .exit)) ⌝ }
 {
-    told_text(listing::message(number, carried, buf))
+    told_text(strings::message(number, carried, buf))
 }
 
 #[no_mangle]

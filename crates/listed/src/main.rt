@@ -6,10 +6,10 @@ ghost use lib.ListN.{length};
 ghost use mathlib.Core.Path.{_≡_};
 use libc::STDOUT_FILENO;
 use lines::LineState;
-use listing::Written;
 use number::Number;
 use records::Records;
 use records::Refusal;
+use strings::Written;
 
 // Longer than any listing by more than MORE: a part of it that a call wants and it has not counts as wrong.
 const ROOM: usize = 4096;
@@ -34,9 +34,9 @@ fn ask(asked: Asked, buf: &mut [u8]) -> Written {
     match asked {
         Asked::Listing(esr) => return listing::listing(esr, buf),
         Asked::RecordLine(esr, index) => return listing::record_line(esr, index, buf),
-        Asked::Message(number, carried) => return listing::message(number, carried, buf),
-        Asked::Value(width, value) => return listing::value_string(width, value, buf),
-        Asked::Binary(width, value) => return listing::value_binary_string(width, value, buf),
+        Asked::Message(number, carried) => return strings::message(number, carried, buf),
+        Asked::Value(width, value) => return strings::value_string(width, value, buf),
+        Asked::Binary(width, value) => return strings::value_binary_string(width, value, buf),
     }
 }
 

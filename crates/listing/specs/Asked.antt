@@ -8,21 +8,10 @@ use lib.ListN.{length, getD}
 use Rattle.records.specs.Refusals.{passed}
 use Rattle.records.specs.Sets.{noRecord, listOf}
 use Rattle.records.specs.declared.Record.{Record}
-use Rattle.records.specs.declared.Refusal.the-variants.{BadField, BadIndex}
+use Rattle.records.specs.declared.Refusal.the-variants.{BadIndex}
 use Rattle.esr.specs.Decode.{answerOf}
-use Rattle.listing.specs.Fields.{valueText, binaryText, lineText, fits}
-use Rattle.listing.specs.Listings.{Phrase, inPool, listingFrom}
-use Rattle.listing.specs.Messages.{messageText, hasMessage}
-use Rattle.listing.specs.Outcomes.{Outcome, refused, text}
-
-unfoldable pub valueString : ℕ → ℕ → Outcome
-valueString width value = cond (fits width value) (text (valueText width value)) (refused BadField)
-
-unfoldable pub binaryString : ℕ → ℕ → Outcome
-binaryString width value = cond (fits width value) (text (binaryText width value)) (refused BadField)
-
-unfoldable pub messageOf : ℕ → ℕ → Outcome
-messageOf number carried = cond (hasMessage number) (text (messageText number carried)) (refused BadField)
+use Rattle.listing.specs.Listings.{Phrase, inPool, lineText, listingFrom}
+use Rattle.strings.specs.Outcomes.{Outcome, refused, text}
 
 unfoldable pub lineIn : List Record → ℕ → Outcome
 lineIn rs index = cond (ltb index (length rs)) (text (lineText (getD rs index noRecord))) (refused (BadIndex (length rs)))

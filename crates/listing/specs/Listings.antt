@@ -6,7 +6,11 @@ use mathlib.Core.List.{List, [], _∷_, _++_}
 use lib.Dec.{eqb, ltb}
 use Rattle.texts.specs.Pool.{bytes, bytesAt}
 use Rattle.records.specs.declared.Record.{Record}
-use Rattle.listing.specs.Fields.{lineText}
+use Rattle.strings.specs.Fields.{fieldText}
+
+-- "A record's line is name, ": " and the value"
+unfoldable pub lineText : Record → List ℕ
+lineText r = bytesAt (r .name) ++ (bytes ": " ++ fieldText (r .width) (r .value))
 
 -- what a lookup gives for a text's code; it is a parameter of the listing, since texts may come from elsewhere than the pool
 pub data Phrase : Type 0 where

@@ -1,17 +1,12 @@
 // A record's line, its text's line, and those of all records of a set: their lengths, and their appenders.
 ghost use Prim.Native.Nat.{_+_, _≤_};
-ghost use Rattle.listing.specs.Fields.{lineText};
-ghost use Rattle.listing.specs.Listings.{inPool, indentAt, listingFrom, recordLines, textLine};
-ghost use Rattle.listing.specs.Steps.{Lent, Wrote};
+ghost use Rattle.listing.specs.Listings.{inPool, indentAt, lineText, listingFrom, recordLines, textLine};
+ghost use Rattle.put.specs.Steps.{Lent, Wrote};
 ghost use Rattle.texts.specs.Pool.{starts as placesOf};
 ghost use lib.ListN.{length, take};
 ghost use mathlib.Core.Path.{_≡_};
-use super::field::behind_length;
-use super::field::put_behind;
-use super::field::put_value;
-use super::field::value_length;
-use super::put::put_bytes;
-use super::put::put_text;
+use put::put_bytes;
+use put::put_text;
 use records::Record;
 use records::Records;
 
@@ -19,9 +14,8 @@ pub(crate) fn line_length(starts: &[u16], item: Record) -> usize
     requires { ⌜ now starts ≡ placesOf ⌝ }
     ensures { λ r. ⌜ (r ≡ length (lineText item)) × (r ≤ 70000) ⌝ }
 {
-    let width = item.width;
     let name = lookup::length_in(starts, item.name) as usize;
-    name + 2 + value_length(width, item.value) + behind_length(width)
+    name + 2 + strings::field_length(item.width, item.value)
 }
 
 pub(crate) fn put_line(
@@ -36,8 +30,7 @@ pub(crate) fn put_line(
 {
     let a = put_text(buf, at, pool, starts, item.name);
     let b = put_bytes(buf, a, b": ");
-    let c = put_value(buf, b, item.width, item.value);
-    put_behind(buf, c, item.width, item.value)
+    strings::put_field(buf, b, item.width, item.value)
 }
 
 fn indent_length(index: usize) -> usize

@@ -26,10 +26,10 @@ use Rattle.esr.specs.Decode.{layoutNumber, firstFailure, refused, accepted as a
 use Rattle.esr.specs.Promises.{Decoded}
 use Rattle.esr.specs.declared.Answer.{Answer}
 use Rattle.listing.specs.Asked.{listingWith, listingOf}
-use Rattle.listing.specs.Digits.{digitChar, digitsOf}
-use Rattle.listing.specs.Fields.{valueText, binaryText, behindValue, lineText}
-use Rattle.listing.specs.Listings.{inPool, indentAt, recordLines, listingFrom}
-use Rattle.listing.specs.Outcomes.{Outcome, text as inFull, answered, left}
+use Rattle.listing.specs.Listings.{inPool, indentAt, lineText, recordLines, listingFrom}
+use Rattle.strings.specs.Digits.{digitChar, digitsOf}
+use Rattle.strings.specs.Fields.{valueText, binaryText, behindValue, fieldText}
+use Rattle.strings.specs.Outcomes.{Outcome, text as inFull, answered, left}
 use Rattle.number.specs.Digits.{digitOf}
 use Rattle.number.specs.Numbers.{numberOf, numberIn, stepsOf, stepOf, startsWith}
 use Rattle.number.specs.declared.Number.{Number}
@@ -121,7 +121,7 @@ unfolding bytes numberOf numberIn stepsOf stepOf startsWith digitOf
 read = refl
 
 in-full : listingOf 0x56000001 ≡ inFull (ended listed)
-unfolding listed ended listingWith listingFrom recordLines inPool indentAt lineText valueText binaryText behindValue digitsOf digitChar bytesAt bytes answerOf classAnswer tableAnswer failureFor recordsFor acceptedAnswer refused layoutNumber topRows firstFailure tableOf layouts res0 wf mcr mcrr ldc sve ld64b bti pauth hvc brk fp breakpoint softwareStep watchpoint instructionAbort dataAbort serror undivided passes rowsFor checksFor fieldOf recordOf checkOf refusalBy recordsOf textIn onList ruleAt says byValue said placesOf texts textAt placeIn code firstOf textCode names rules
+unfolding listed ended listingWith listingFrom recordLines inPool indentAt lineText fieldText valueText binaryText behindValue digitsOf digitChar bytesAt bytes answerOf classAnswer tableAnswer failureFor recordsFor acceptedAnswer refused layoutNumber topRows firstFailure tableOf layouts res0 wf mcr mcrr ldc sve ld64b bti pauth hvc brk fp breakpoint softwareStep watchpoint instructionAbort dataAbort serror undivided passes rowsFor checksFor fieldOf recordOf checkOf refusalBy recordsOf textIn onList ruleAt says byValue said placesOf texts textAt placeIn code firstOf textCode names rules
 in-full = refl
 
 listing-holds : ListingHolds

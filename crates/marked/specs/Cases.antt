@@ -12,7 +12,7 @@ use Rattle.records.specs.declared.Refusal.the-variants.{None}
 use Rattle.esr.specs.Promises.{Decoded}
 use Rattle.esr.specs.declared.Answer.{Answer}
 use Rattle.listing.specs.Promises.{Listing}
-use Rattle.listing.specs.declared.Written.{Written}
+use Rattle.strings.specs.declared.Written.{Written}
 use Rattle.number.specs.Promises.{Parsed}
 use Rattle.number.specs.declared.Number.{Number}
 

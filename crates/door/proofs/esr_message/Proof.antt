@@ -1,4 +1,4 @@
--- The answer of `listing::message`, told; the buffer is what it left.
+-- The answer of `strings::message`, told; the buffer is what it left.
 use Rattle.door.proofs.Laws.{told-asked}
 use borrow.Author.Needs.{needs}
 use Rattle.door.proofs.esr_message.Statement.{statement}

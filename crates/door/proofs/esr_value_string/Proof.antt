@@ -1,4 +1,4 @@
--- The answer of `listing::value_string`, told; the buffer is what it left.
+-- The answer of `strings::value_string`, told; the buffer is what it left.
 use Rattle.door.proofs.Laws.{told-asked}
 use borrow.Author.Needs.{needs}
 use Rattle.door.proofs.esr_value_string.Statement.{statement}

@@ -5,10 +5,10 @@ use mathlib.Core.Path.{_≡_, refl, sym, ap, _∙_}
 use lib.ListN.{length}
 use Rattle.records.proofs.Laws.{long-as}
 use Rattle.listing.proofs.Answers.{listing-no, listing-yes, room}
-use Rattle.listing.specs.Steps.{Lent}
+use Rattle.put.specs.Steps.{Lent}
 use Rattle.listing.specs.Listings.{inPool, listingFrom}
 use Rattle.records.specs.Sets.{listOf}
-use Rattle.listing.proofs.Kept.{by-refusal, by-shortness, by-writing}
+use Rattle.strings.proofs.Kept.{by-refusal, by-shortness, by-writing}
 use Rattle.listing.proofs.listing.Statement.{statement}
 use Rattle.listing.proofs.listing.Tie as tie
 
@@ -35,11 +35,11 @@ all-length-requires c κs =
     let long : length (c .before .before .before .before .decode .result .records .items) ≡ 19 = search (needs, long-as) in
     (c .before .starting-places .ensures, room (c .before .before .before .before .before .before .args .esr) (c .before .before .before .before .decode .result) (c .before .before .before .number .result) (c .before .before .before .before .decode .ensures) (c .before .before .before .number .ensures) long)
 
-short-requires : tie.Need-short-requires
-short-requires c κs = search needs
+refuse-requires-2 : tie.Need-refuse-requires-2
+refuse-requires-2 c κs = search needs
 
 returns-2 : tie.Need-returns-2
-returns-2 c = by-shortness (listingFrom inPool 0 (listOf (c .before .before .before .before .before .before .before .decode .result .records))) (c .before .before .all-length .result) (listing-yes (c .before .before .before .before .before .before .before .before .before .args .esr) (c .before .before .before .before .before .before .before .decode .result) (c .before .before .before .before .before .before .number .result) (c .before .before .before .before .before .before .before .decode .ensures) (c .before .before .before .before .before .before .number .ensures) (c .before .before .before .before .before .if1 .left)) (c .before .before .all-length .ensures) (c .before .if2 .taken) (c .short .ensures)
+returns-2 c = by-shortness (listingFrom inPool 0 (listOf (c .before .before .before .before .before .before .before .decode .result .records))) (c .before .before .all-length .result) (listing-yes (c .before .before .before .before .before .before .before .before .before .args .esr) (c .before .before .before .before .before .before .before .decode .result) (c .before .before .before .before .before .before .number .result) (c .before .before .before .before .before .before .before .decode .ensures) (c .before .before .before .before .before .before .number .ensures) (c .before .before .before .before .before .if1 .left)) (c .before .before .all-length .ensures) (c .before .if2 .taken) (c .refuse2 .ensures)
 
 pool-bytes-requires : tie.Need-pool-bytes-requires
 pool-bytes-requires c κs = search needs
@@ -72,7 +72,7 @@ listing-spec =
     starting-places-requires
     slice-aggregate-all-length
     all-length-requires
-    short-requires
+    refuse-requires-2
     returns-2
     pool-bytes-requires
     slice-aggregate-put-all

@@ -5,10 +5,10 @@ use mathlib.Core.Path.{_≡_, refl, sym, ap, _∙_}
 use lib.ListN.{length}
 use Rattle.records.proofs.Laws.{long-as}
 use Rattle.listing.proofs.Answers.{line-refused, line-no, line-yes}
-use Rattle.listing.specs.Steps.{Lent}
-use Rattle.listing.specs.Fields.{lineText}
+use Rattle.put.specs.Steps.{Lent}
+use Rattle.listing.specs.Listings.{lineText}
 use Rattle.records.specs.declared.Refusal.the-variants.{BadIndex}
-use Rattle.listing.proofs.Kept.{by-refusal, by-shortness, by-writing}
+use Rattle.strings.proofs.Kept.{by-refusal, by-shortness, by-writing}
 use Rattle.listing.proofs.record_line.Statement.{statement}
 use Rattle.listing.proofs.record_line.Tie as tie
 
@@ -44,13 +44,13 @@ slice-aggregate-line-length c = search needs
 line-length-requires : tie.Need-line-length-requires
 line-length-requires c κs = c .before .starting-places .ensures
 
-short-requires : tie.Need-short-requires
-short-requires c κs = search needs
+refuse-requires-3 : tie.Need-refuse-requires-3
+refuse-requires-3 c κs = search needs
 
 returns-3 : tie.Need-returns-3
 returns-3 c =
     let long : length (c .before .before .before .before .before .before .before .before .before .decode .result .records .items) ≡ 19 = search (needs, long-as) in
-    by-shortness (lineText (c .before .before .before .before .before .at .result)) (c .before .before .line-length .result) (line-yes (c .before .before .before .before .before .before .before .before .before .before .before .args .esr) (c .before .before .before .before .before .before .before .before .before .decode .result) (c .before .before .before .before .before .before .before .before .number .result) (c .before .before .before .before .before .before .before .before .before .decode .ensures) (c .before .before .before .before .before .before .before .before .number .ensures) long (c .before .before .before .before .before .before .before .if1 .left) (c .before .before .before .before .before .before .before .before .before .before .before .args .index) (c .before .before .before .before .before .before .if2 .left) (c .before .before .before .before .before .at .result) (c .before .before .before .before .before .at .ensures)) (c .before .before .line-length .ensures .0) (c .before .if3 .taken) (c .short .ensures)
+    by-shortness (lineText (c .before .before .before .before .before .at .result)) (c .before .before .line-length .result) (line-yes (c .before .before .before .before .before .before .before .before .before .before .before .args .esr) (c .before .before .before .before .before .before .before .before .before .decode .result) (c .before .before .before .before .before .before .before .before .number .result) (c .before .before .before .before .before .before .before .before .before .decode .ensures) (c .before .before .before .before .before .before .before .before .number .ensures) long (c .before .before .before .before .before .before .before .if1 .left) (c .before .before .before .before .before .before .before .before .before .before .before .args .index) (c .before .before .before .before .before .before .if2 .left) (c .before .before .before .before .before .at .result) (c .before .before .before .before .before .at .ensures)) (c .before .before .line-length .ensures .0) (c .before .if3 .taken) (c .refuse3 .ensures)
 
 pool-bytes-requires : tie.Need-pool-bytes-requires
 pool-bytes-requires c κs = search needs
@@ -86,7 +86,7 @@ record-line-spec =
     starting-places-requires
     slice-aggregate-line-length
     line-length-requires
-    short-requires
+    refuse-requires-3
     returns-3
     pool-bytes-requires
     slice-aggregate-put-line

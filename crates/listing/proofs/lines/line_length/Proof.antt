@@ -1,8 +1,10 @@
 -- The parts of the line, one length after the other.
 use denote.Ref.{now}
-use native.Mathlib.Omega.{arith}
-use Rattle.listing.proofs.Cases.{lent-length, length-line}
 use borrow.Author.Needs.{needs}
+use native.Mathlib.Omega.{arith}
+use Rattle.put.proofs.Lent.{lent-length}
+use Rattle.strings.proofs.Cases.{field-short}
+use Rattle.listing.proofs.Cases.{length-line}
 use Rattle.listing.proofs.lines.line_length.Statement.{statement}
 use Rattle.listing.proofs.lines.line_length.Tie as tie
 
@@ -15,33 +17,21 @@ cast-name c = search needs
 add-result : tie.Need-add-result
 add-result c = search needs
 
-value-length-requires : tie.Need-value-length-requires
-value-length-requires c κs = search needs
+field-length-requires : tie.Need-field-length-requires
+field-length-requires c κs = search needs
 
 add-result-2 : tie.Need-add-result-2
-add-result-2 c = search needs
-
-behind-length-requires : tie.Need-behind-length-requires
-behind-length-requires c κs = search needs
-
-add-result-3 : tie.Need-add-result-3
-add-result-3 c = search needs
+add-result-2 c =
+    let a = c .before .before .before .args in
+    omega (arith, c .field-length .ensures, field-short (a .item .width) (a .item .value) (omega arith))
 
 returns : tie.Need-returns
 returns c =
-    let a = c .before .before .before .before .args in
-    let n = lent-length (now (a .starts)) (a .item .name) (c .before .before .length-in .result) (c .before .before .before .before .pre) (c .before .before .length-in .ensures) in
-    omega (arith, length-line (a .item), n, c .behind-length .ensures .0 (a .item .value))
+    let a = c .before .before .before .args in
+    let n = lent-length (now (a .starts)) (a .item .name) (c .before .length-in .result) (c .before .before .before .pre) (c .before .length-in .ensures) in
+    omega (arith, length-line (a .item), n, c .field-length .ensures, field-short (a .item .width) (a .item .value) (omega arith))
 
 pub line-length-spec : {M : Type 1} → statement M
 line-length-spec =
     tie.close
-    (tie.spec
-    length-in-requires
-    cast-name
-    add-result
-    value-length-requires
-    add-result-2
-    behind-length-requires
-    add-result-3
-    returns)
+    (tie.spec length-in-requires cast-name add-result field-length-requires add-result-2 returns)

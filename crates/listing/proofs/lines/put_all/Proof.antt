@@ -6,8 +6,8 @@ use Prim.Native.Nat.{ℕ, _+_, _-_, _≤_, _<_}
 use lib.ListN.{length, take}
 use Rattle.records.proofs.Laws.{long-as}
 use Rattle.listing.proofs.Lengths.{one-more, length-more, front, no-lines}
-use Rattle.listing.proofs.Writing.{wrote-none, and-then, wrote-length}
-use Rattle.listing.specs.Steps.{Wrote}
+use Rattle.put.proofs.Writing.{wrote-none, and-then, wrote-length}
+use Rattle.put.specs.Steps.{Wrote}
 use Rattle.listing.specs.Listings.{inPool, listingFrom}
 use Rattle.records.specs.Sets.{noRecord}
 use Rattle.listing.proofs.lines.put_all.Statement.{statement}

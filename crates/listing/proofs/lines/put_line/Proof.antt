@@ -1,34 +1,39 @@
--- Four appenders, one after the other.
+-- Three appenders, one after the other.
 use borrow.Author.Needs.{needs}
 use native.Mathlib.Omega.{arith}
-use Rattle.listing.proofs.Cases.{length-line}
-use Rattle.listing.specs.Fields.{lineText}
 use Rattle.texts.specs.Pool.{bytes}
-use Rattle.listing.proofs.Writing.{and-then}
+use Rattle.put.proofs.Lent.{text-in}
+use Rattle.put.proofs.Room.{wrote-in}
+use Rattle.put.proofs.Writing.{and-then}
+use Rattle.listing.specs.Listings.{lineText}
+use Rattle.listing.proofs.Cases.{length-line}
 use Rattle.listing.proofs.lines.put_line.Statement.{statement}
 use Rattle.listing.proofs.lines.put_line.Tie as tie
 
 put-text-requires : tie.Need-put-text-requires
-put-text-requires c κs = (c .before .before .before .before .pre .0, omega (arith, length-line (c .before .before .before .before .args .item)))
+put-text-requires c κs = search needs
 
 slice-aggregate-put-bytes : tie.Need-slice-aggregate-put-bytes
 slice-aggregate-put-bytes c = search needs
 
 put-bytes-requires : tie.Need-put-bytes-requires
-put-bytes-requires c κs = omega (arith, length-line (c .before .before .before .before .before .before .before .before .before .args .item))
+put-bytes-requires c κs = search needs
 
-put-value-requires : tie.Need-put-value-requires
-put-value-requires c κs = omega (arith, length-line (c .before .before .before .before .before .before .before .before .before .before .before .before .before .args .item))
-
-put-behind-requires : tie.Need-put-behind-requires
-put-behind-requires c κs = omega (arith, length-line (c .before .before .before .before .before .before .before .before .before .before .before .before .before .before .before .before .before .args .item))
+put-field-requires : tie.Need-put-field-requires
+put-field-requires c κs = search needs
 
 same-length : tie.Need-same-length
 same-length c = search needs
 
 returns : tie.Need-returns
 unfolding lineText bytes
-returns c = and-then (c .before .before .before .before .before .before .before .before .before .before .before .before .before .before .before .put-text .ensures) (and-then (c .before .before .before .before .before .before .before .before .before .before .put-bytes .ensures) (and-then (c .before .before .before .before .before .before .put-value .ensures) (c .before .before .put-behind .ensures)))
+returns c =
+    let a = c .before .before .before .before .before .before .before .before .before .before .before .before .before .before .before .before .args in
+    let l = length-line (a .item) in
+    let w = text-in (a .item .name) (c .before .before .before .before .before .before .before .before .before .before .before .before .before .before .before .before .pre .0) (c .before .before .before .before .before .before .before .before .before .before .before .put-text .ensures) (omega arith) in
+    let x = wrote-in (c .before .before .before .before .before .before .put-bytes .ensures) (omega (arith, w .next)) in
+    let y = wrote-in (c .before .before .put-field .ensures) (omega (arith, w .next, x .next)) in
+    and-then w (and-then x y)
 
 pub put-line-spec : {M : Type 1} → statement M
 put-line-spec =
@@ -37,7 +42,6 @@ put-line-spec =
     put-text-requires
     slice-aggregate-put-bytes
     put-bytes-requires
-    put-value-requires
-    put-behind-requires
+    put-field-requires
     same-length
     returns)

@@ -3,7 +3,8 @@ use denote.Ref.{now}
 use mathlib.Core.Path.{_≡_, sym, ap}
 use lib.ListN.{length}
 use native.Mathlib.Omega.{arith}
-use Rattle.listing.proofs.Cases.{lent-length, text-none, length-some}
+use Rattle.put.proofs.Lent.{lent-length}
+use Rattle.listing.proofs.Cases.{text-none, length-some}
 use borrow.Author.Needs.{needs}
 use Rattle.listing.proofs.lines.text_length.Statement.{statement}
 use Rattle.listing.proofs.lines.text_length.Tie as tie

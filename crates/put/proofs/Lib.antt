@@ -1,0 +1,4 @@
+pub mod Writing
+pub mod Room
+pub mod Lent
+pub mod Decides

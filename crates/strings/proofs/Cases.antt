@@ -1,0 +1,132 @@
+-- The texts by cases, and how long each is.
+use mathlib.Core.Path.{_≡_, refl, sym, ap, _∙_}
+use mathlib.Core.Bool.{Bool, true, false}
+use mathlib.Core.List.{[], _++_}
+use Prim.Native.Nat.{ℕ, _+_, _-_, _*_, _/_, _^_, _≤_, _<_}
+use native.Mathlib.Nat.{div-eq-of-lt, one-mul, div-lt-iff-lt-mul}
+use native.Mathlib.Omega.{arith}
+use borrow.Author.Tests.{eq-eqb, ne-eqb, eqb-true, eqb-false, lt-ltb, le-ltb, le-leb, lt-leb}
+use lib.Dec.{eqb}
+use lib.ListN.{length, length-append}
+use lib.Pow.{shr-shr, pow-pos}
+use Rattle.texts.specs.Pool.{bytes, bytesAt, textCode}
+use Rattle.texts.specs.Rules.{Rule, message, messageEnd}
+use Rattle.texts.proofs.Laws.{text-said}
+use Rattle.strings.specs.Digits.{digitsOf, unpadded}
+use Rattle.strings.specs.Fields.{valueText, binaryText, behindValue, fieldText, fits}
+use Rattle.strings.specs.Messages.{messageText}
+use Rattle.strings.proofs.Numerals.{length-digits}
+
+-- how long the fixed words are
+words : (length (bytes "0x") ≡ 2) × (length (bytes " ") ≡ 1)
+unfolding bytes
+words = (refl, refl)
+
+-- A field.
+
+module _ (w v : ℕ) where
+  pub value-true : w ≡ 1 → v ≡ 1 → valueText w v ≡ bytes "true"
+  unfolding valueText
+  value-true a b = rw (eq-eqb w 1 a, eq-eqb v 1 b)
+
+  pub value-false : w ≡ 1 → (v ≡ 1 → ⊥) → valueText w v ≡ bytes "false"
+  unfolding valueText
+  value-false a b = rw (eq-eqb w 1 a, ne-eqb v 1 b)
+
+  pub value-wide : (w ≡ 1 → ⊥) → valueText w v ≡ bytes "0x" ++ digitsOf 16 ((w + 3) / 4) v
+  unfolding valueText
+  value-wide a = rw (ne-eqb w 1 a)
+
+  pub length-true : w ≡ 1 → v ≡ 1 → length (valueText w v) ≡ 4
+  unfolding bytes
+  length-true a b = rw (value-true a b)
+
+  pub length-false : w ≡ 1 → (v ≡ 1 → ⊥) → length (valueText w v) ≡ 5
+  unfolding bytes
+  length-false a b = rw (value-false a b)
+
+  pub length-wide : (w ≡ 1 → ⊥) → length (valueText w v) ≡ 2 + (w + 3) / 4
+  unfolding bytes
+  length-wide a = rw (value-wide a, length-append, length-digits)
+
+  pub length-binary : length (binaryText w v) ≡ 2 + w
+  unfolding binaryText bytes
+  length-binary = rw (length-append, length-digits)
+
+  pub behind-bit : w ≡ 1 → behindValue w v ≡ []
+  unfolding behindValue
+  behind-bit a = rw (eq-eqb w 1 a)
+
+  pub behind-wide : (w ≡ 1 → ⊥) → behindValue w v ≡ bytes " " ++ binaryText w v
+  unfolding behindValue
+  behind-wide a = rw (ne-eqb w 1 a)
+
+  pub length-behind : (w ≡ 1 → ⊥) → length (behindValue w v) ≡ 3 + w
+  length-behind a = rw (behind-wide a, length-append, length-binary) (omega (arith, words))
+
+  pub length-field : length (fieldText w v) ≡ length (valueText w v) + length (behindValue w v)
+  unfolding fieldText
+  length-field = length-append (valueText w v) (behindValue w v)
+
+  -- a width of eight bits keeps it short
+  value-short : w < 256 → length (valueText w v) ≤ 66
+  value-short h = by-tests (eqb w 1) refl (eqb v 1) refl
+    where
+      by-tests : (b : Bool) → eqb w 1 ≡ b → (d : Bool) → eqb v 1 ≡ d → length (valueText w v) ≤ 66
+      by-tests true e true f = omega (arith, length-true (eqb-true w 1 e) (eqb-true v 1 f))
+      by-tests true e false f = omega (arith, length-false (eqb-true w 1 e) (eqb-false v 1 f))
+      by-tests false e d f = omega (arith, length-wide (eqb-false w 1 e))
+
+  behind-short : w < 256 → length (behindValue w v) ≤ 258
+  behind-short h = by-test (eqb w 1) refl
+    where
+      by-test : (b : Bool) → eqb w 1 ≡ b → length (behindValue w v) ≤ 258
+      by-test true e = omega (arith, ap length (behind-bit (eqb-true w 1 e)))
+      by-test false e = omega (arith, length-behind (eqb-false w 1 e))
+
+  pub field-short : w < 256 → length (fieldText w v) ≤ 324
+  field-short h = omega (arith, length-field, value-short h, behind-short h)
+
+  -- Whether a value fits its width, by two shifts: a shift by 64 would be none.
+  whole : 1 ≤ w → v / 2 ^ (w - 1) / 2 ^ 1 ≡ v / 2 ^ w
+  whole h = let e : (w - 1) + 1 ≡ w = omega arith in shr-shr v (w - 1) 1 ∙ ap (λ (k : ℕ). v / 2 ^ k) e
+
+  pub no-width : w < 1 → fits w v ≡ false
+  unfolding fits
+  no-width h = rw (lt-leb 1 w h)
+
+  pub wide-width : 1 ≤ w → 64 < w → fits w v ≡ false
+  unfolding fits
+  wide-width h k = rw (le-leb 1 w h, lt-leb w 64 k)
+
+  pub big-value : 1 ≤ w → w ≤ 64 → (v / 2 ^ (w - 1) / 2 ^ 1 ≡ 0 → ⊥) → fits w v ≡ false
+  unfolding fits
+  big-value h k m =
+      let n : v < 2 ^ w → ⊥ = λ q. m (whole h ∙ div-eq-of-lt q) in
+      let n′ : 2 ^ w ≤ v = omega arith in
+      rw (le-leb 1 w h, le-leb w 64 k, le-ltb v (2 ^ w) n′)
+
+  pub good-value : 1 ≤ w → w ≤ 64 → v / 2 ^ (w - 1) / 2 ^ 1 ≡ 0 → fits w v ≡ true
+  unfolding fits
+  good-value h k m =
+      let m′ : v / 2 ^ w ≡ 0 = sym (whole h) ∙ m in
+      let q : v / 2 ^ w < 1 = omega arith in
+      let n : v < 1 * 2 ^ w = (div-lt-iff-lt-mul (pow-pos w)) .0 q in
+      let n′ : v < 2 ^ w = rw one-mul at n in
+      rw (le-leb 1 w h, le-leb w 64 k, lt-ltb v (2 ^ w) n′)
+
+-- Messages: their texts by codes.
+
+module _ (number carried : ℕ) where
+  abbrev pub front : ℕ
+  front = textCode (message .number) number
+
+  abbrev pub end : ℕ
+  end = textCode (messageEnd .number) number
+
+  pub message-coded : messageText number carried ≡ bytesAt front ++ (bytes "0x" ++ (digitsOf 16 (unpadded carried) carried ++ bytesAt end))
+  unfolding messageText bytesAt
+  message-coded = rw (text-said (message .number) number, text-said (messageEnd .number) number)
+
+  pub length-message : length (messageText number carried) ≡ length (bytesAt front) + (2 + (unpadded carried + length (bytesAt end)))
+  length-message = rw message-coded (simp (length-append, length-digits) (omega (arith, words)))

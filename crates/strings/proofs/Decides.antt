@@ -1,0 +1,29 @@
+-- Each promise of this crate decides its answer and the buffer: it says what both are.
+use mathlib.Core.Path.{_≡_, ap₂}
+use mathlib.Core.List.{List}
+use Prim.Native.Nat.{ℕ}
+use Rattle.promise.proofs.Laws.{same}
+use Rattle.promise.specs.Promise.{Decides}
+use Rattle.put.proofs.Decides.{one-place}
+use Rattle.strings.specs.Outcomes.{Outcome, Answers}
+use Rattle.strings.specs.Promises.{BinaryString, FieldLength, FieldPlaced, Message, ValueString}
+use Rattle.strings.specs.declared.Written.{Written}
+
+-- an outcome and a buffer leave one answer and one buffer
+pub only : (o : Outcome) (before : List ℕ) → (a b : Written × List ℕ) → Answers o before a → Answers o before b → a ≡ b
+only o before a b p q = ap₂ (λ (r : Written) (after : List ℕ). (r, after)) (same (p .0) (q .0)) (same (p .1) (q .1))
+
+pub value-string-decides : Decides ValueString
+value-string-decides (width, value, before) = only _ before
+
+pub value-binary-string-decides : Decides BinaryString
+value-binary-string-decides (width, value, before) = only _ before
+
+pub message-decides : Decides Message
+message-decides (number, carried, before) = only _ before
+
+pub field-length-decides : Decides FieldLength
+field-length-decides (width, value) a b = same
+
+pub put-field-decides : Decides FieldPlaced
+put-field-decides (before, at, width, value) = one-place _ at before

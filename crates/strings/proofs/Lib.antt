@@ -1,0 +1,6 @@
+pub mod Numerals
+pub mod Cases
+pub mod Answers
+pub mod Kept
+pub mod Theorems
+pub mod Decides
