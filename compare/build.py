@@ -10,7 +10,8 @@ The oracle answers lines of standard input (oracle/main.rs). There are two, in t
   as-published  the sources as they are; of filled.rs and msr.rs only what the sources do not have
 In both, `midr` and `smccc` are left out, `bit_field` is a stand-in (bit_field.rs) and `thiserror` is Debian's package. The compiler is the
 machine's own, from 1.73 on, or else Debian's rustc-web. Nothing is fetched but Debian's packages. Exits 0, or says what failed and exits 1.
-The copies lie in target/compare/by-01 and target/compare/as-published, each a package with the library `decoder`."""
+Our archive is for x86-64, so `every` and `bench` are as well: on another processor Debian's rustc-web builds them, and they run under Debian's
+emulator. The copies lie in target/compare/by-01 and target/compare/as-published, each a package with the library `decoder`."""
 import hashlib
 import os
 import platform
@@ -18,6 +19,7 @@ import re
 import shutil
 import subprocess
 import sys
+import tempfile
 from pathlib import Path
 
 HERE = Path(__file__).resolve().parent
@@ -28,9 +30,16 @@ BIN = OUT / "bin"
 DEFAULT = TOP.parent / "shared" / "docs" / "src"
 ARCHIVES = TOP / "target" / "staticlib"
 REGISTRY = Path("/usr/share/cargo/registry")
+DEBIAN = Path("/usr/bin")
 OLDEST = (1, 73)
 KINDS = ("by-01", "as-published")
 SIDES = ("every", "bench")
+
+# What builds for x86-64 on another processor, and what runs it there.
+X86_64 = "x86_64-unknown-linux-gnu"
+CROSS = ("rustc-web", "cargo-web", "gcc-x86-64-linux-gnu", "libc6-dev-amd64-cross", "qemu-user")
+LINKER = DEBIAN / "x86_64-linux-gnu-gcc"
+EMULATOR = [DEBIAN / "qemu-x86_64", "-L", "/usr/x86_64-linux-gnu"]
 
 # A function of a file as the formatter lays it out, with the comment above it.
 ITEM = r"(?:^///[^\n]*\n)*^(?:pub\(super\) )?fn ({name})\(.*?^}}\n"
@@ -89,6 +98,12 @@ def runner():
     return [tools / "bin" / "qemu-x86_64", tools / "lib" / "ld-linux-x86-64.so.2", "--library-path", tools / "lib"]
 
 
+def emulator():
+    """What stands before a program of sides/. The toolchain's emulator will not do: it breaks down where a program reads which memory it
+    has (/proc/self/maps), and whatever is written in Rust does so at its start."""
+    return [] if platform.machine() == "x86_64" else EMULATOR
+
+
 def version_of(compiler):
     try:
         said = subprocess.run([compiler, "--version"], capture_output=True, text=True).stdout
@@ -105,9 +120,43 @@ def compiler():
         if rustc.is_file() and (Path(folder) / "cargo").is_file() and version_of(rustc) >= OLDEST:
             return Path(folder)
     install("rustc-web", "cargo-web")
-    if version_of("/usr/bin/rustc") < OLDEST:
+    if version_of(DEBIAN / "rustc") < OLDEST:
         fail("no rustc from 1.73 on, and Debian's packages gave none")
-    return Path("/usr/bin")
+    return DEBIAN
+
+
+def library():
+    """Where the standard library for x86-64 is to lie that fits Debian's compiler as it is installed; one of another version does not."""
+    asked = ["dpkg-query", "--show", "--showformat=${Version}", "rustc-web"]
+    return OUT / "x86-64" / f"std-{subprocess.run(asked, capture_output=True, text=True).stdout}"
+
+
+def unpack(room):
+    """Unpacks that library from Debian's package for x86-64. It is not installed, and apt has a state of its own for it, which is gone
+    afterwards: this machine's packages, and the processors that it takes packages for, stay as they are."""
+    room.parent.mkdir(parents=True, exist_ok=True)
+    package = f"libstd-rust-web-dev={room.name.removeprefix('std-')}"
+    with tempfile.TemporaryDirectory(dir=room.parent) as state:
+        own = {"APT::Architecture": "amd64", "APT::Architectures": "amd64", "APT::Sandbox::User": "root"}
+        own |= {"Dir::State": state, "Dir::State::status": "/dev/null", "Dir::Cache": state}
+        options = [f"-o{name}={value}" for name, value in own.items()]
+        for command in (["update"], ["download", package]):
+            if subprocess.run(["apt-get", "-qq", *options, *command], cwd=state).returncode:
+                fail(f"apt-get {' '.join(command)} failed for x86-64")
+        whole = Path(state) / "whole"
+        subprocess.run(["dpkg", "--extract", *Path(state).glob("*.deb"), whole], check=True)
+        whole.rename(room)
+
+
+def crossing():
+    """Makes Debian's compiler ready to build for x86-64 on another processor; answers the words that its cargo needs for that. They hold
+    for what is built to run in the end, and not for what runs in the build (thiserror's macros)."""
+    if not (library().is_dir() and LINKER.is_file() and EMULATOR[0].is_file()):
+        install(*CROSS)
+    if not library().is_dir():
+        unpack(library())
+    own = {"linker": f'"{LINKER}"', "rustflags": f'["--sysroot={library() / "usr"}"]'}
+    return ["--target", X86_64, *(f"--config=target.{X86_64}.{name}={value}" for name, value in own.items())]
 
 
 def write(path, text):
@@ -161,18 +210,19 @@ def make(kind, sources):
     return sum_of(files)
 
 
-def cargo(folder, room, program):
-    """Builds a program of a package with the folder's cargo, offline, over Debian's sources; all packages share what they need."""
+def cargo(folder, room, program, cross=()):
+    """Builds a program of a package with the folder's cargo, offline, over Debian's sources; all packages share what they need. The words
+    of `crossing` are given where it is built for another processor than this one."""
     own = {"CARGO_HOME": OUT / "cargo", "CARGO_TARGET_DIR": OUT / "build", "RUSTC": folder / "rustc"}
     environment = os.environ | {name: str(value) for name, value in own.items()}
-    command = [folder / "cargo", "build", "--release", "--quiet", "--offline", "--bin", program]
+    command = [folder / "cargo", "build", "--release", "--quiet", "--offline", "--bin", program, *cross]
     if subprocess.run(command, cwd=room, env=environment).returncode:
         fail(f"cargo build failed in {room.relative_to(TOP)}")
 
 
-def keep(built, name):
+def keep(built, name, cross=()):
     BIN.mkdir(parents=True, exist_ok=True)
-    shutil.copy2(OUT / "build" / "release" / built, BIN / name)
+    shutil.copy2(OUT / "build" / (X86_64 if cross else "") / "release" / built, BIN / name)
 
 
 def oracle(sources=None):
@@ -196,26 +246,29 @@ def oracle(sources=None):
     return folder, hashes
 
 
-def program(name, folder, needs):
+def program(name, folder, needs, cross=()):
     """Builds a program of sides/ over the packages that it needs."""
     room = OUT / name
     dependencies = "".join(f'{word} = {{ package = "{kind}", path = "{OUT / kind}" }}\n' for word, kind in needs.items())
     targets = PROGRAM.format(name=name, path=HERE / "sides" / f"{name}.rs")
     write(room / "Cargo.toml", MANIFEST.format(name=f"{name}-program", targets=targets, dependencies=dependencies))
-    cargo(folder, room, name)
-    keep(name, name)
+    cargo(folder, room, name, cross)
+    keep(name, name, cross)
 
 
 def sides(name, sources=None):
     """Builds the oracle, our archive and a program over both; answers the hashes of all three."""
-    if platform.machine() != "x86_64":
-        fail("our archive is for x86-64, and building the Rust for it on another processor has not been tried")
     folder, hashes = oracle(sources)
+    cross = ()
+    if platform.machine() != "x86_64":
+        folder, cross = DEBIAN, crossing()
+        version = ".".join(map(str, version_of(folder / "rustc")))
+        print(f"compare: both sides of {name} are built for x86-64, the Rust by rustc {version}, and run under an emulator", flush=True)
     if subprocess.run(["rt", "staticlib", "door"], cwd=TOP, stdout=subprocess.DEVNULL).returncode:
         fail("rt staticlib door failed")
     archive = ARCHIVES / "libdoor.a"
     write(OUT / name / "build.rs", LINKED.format(folder=ARCHIVES, archive=archive))
-    program(name, folder, {"decoder": "by-01"})
+    program(name, folder, {"decoder": "by-01"}, cross)
     programs = hashlib.sha256(b"".join(path.read_bytes() for path in sorted((HERE / "sides").glob("*.rs")))).hexdigest()
     return {"rust": hashes["by-01"], "archive": hashlib.sha256(archive.read_bytes()).hexdigest(), "programs": programs}
 
