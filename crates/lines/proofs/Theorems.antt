@@ -1,7 +1,7 @@
 -- What the promises come to: a line's bytes one at a time give what the whole line gives, in however many parts they come. By cases on
 -- what may stand before the digits; from there on the fold is number's own.
 use Prim.Native.Char.{code}
-use Prim.Native.Nat.{ℕ, _+_, _≤_, _<_}
+use Prim.Native.Nat.{ℕ, _+_, _≤_}
 use mathlib.Core.Bool.{Bool, true, false, cond, not, _&&_}
 use mathlib.Core.List.{List, [], _∷_, _++_}
 use mathlib.Core.Path.{_≡_, refl, sym, ap, _∙_}

@@ -5,17 +5,15 @@ use mathlib.Core.List.{List, [], _∷_}
 use Prim.Native.Nat.{ℕ, zero, suc, _+_, _-_, _*_, _/_, _%_, _^_, _≤_, _<_}
 use native.Mathlib.Nat.{add-zero, add-suc, suc-add, zero-add, le-of-suc-le-suc, not-suc-le-zero}
 use native.Mathlib.Omega.{arith}
-use lib.Dec.{T, eqb, ltb, leb, eqb→eq, leb→le}
+use lib.Dec.{T, eqb, ltb, eqb→eq}
 use lib.Pow.{shr-shr}
-use lib.ListN.{length, getD, take, List·getD-eq-default}
+use lib.ListN.{take, List·getD-eq-default}
 use lib.Seq.{take-all}
 use borrow.Author.Tests.{ltb-true, ltb-false}
 use Rattle.promise.proofs.Tests.{both-left, both-right, from, from-at}
-use Rattle.texts.specs.Names.{names}
 use Rattle.texts.specs.Rules.{Rule, plain, rules}
 use Rattle.texts.specs.Pool.{onList, ruleAt, says, placesOf, nameRoom, firstOf}
 use Rattle.lookup.specs.Sayings.{bit, bitsOf, numbersOf, bitIn}
-use Rattle.lookup.specs.declared.Saying.{Saying}
 use Rattle.texts.proofs.Laws.{places-small, says-below}
 
 bit-lt : (b : Bool) → bit b < 2

@@ -1,7 +1,6 @@
 -- The marked cases hold: one test over the whole table, which antt computes, and one law that turns it into what each case says.
 use Prim.Native.Nat.{ℕ}
-use Prim.Native.String.{String}
-use mathlib.Core.Bool.{Bool, true, false, cond, _&&_, _||_}
+use mathlib.Core.Bool.{Bool, true, false, _&&_, _||_}
 use mathlib.Core.List.{List, [], _∷_, List·Memᴰ, List·Memᴰ·head, List·Memᴰ·tail}
 use mathlib.Core.Path.{_≡_, refl, sym, ap, _∙_, subst}
 use lib.Dec.{T, eqb, eqb→eq}
@@ -17,13 +16,11 @@ use Rattle.records.specs.Refusals.{refusalNumber, refusalCarries, refusalBy}
 use Rattle.records.specs.Rows.{recordOf, checkOf}
 use Rattle.records.specs.Sets.{recordsOf, listOf}
 use Rattle.records.specs.declared.Record.{Record}
-use Rattle.records.specs.declared.Refusal.{Refusal}
 use Rattle.records.specs.declared.Refusal.the-variants.{None}
 use Rattle.records.proofs.Laws.{no-refusal}
 use Rattle.tables.specs.Layouts.{passes, rowsFor, checksFor}
 use Rattle.tables.specs.Tables.{topRows, layouts, tableOf, res0, wf, mcr, mcrr, ldc, sve, ld64b, bti, pauth, hvc, brk, fp, breakpoint, softwareStep, watchpoint, instructionAbort, dataAbort, serror, undivided}
 use Rattle.esr.specs.Decode.{layoutNumber, firstFailure, refused, accepted as acceptedAnswer, failureFor, recordsFor, tableAnswer, classAnswer, answerOf}
-use Rattle.esr.specs.Promises.{Decoded}
 use Rattle.esr.specs.declared.Answer.{Answer}
 use Rattle.listing.specs.Asked.{listingWith, listingOf}
 use Rattle.listing.specs.Listings.{inPool, indentAt, lineText, recordLines, listingFrom}
@@ -33,7 +30,7 @@ use Rattle.strings.specs.Outcomes.{Outcome, text as inFull, answered, left}
 use Rattle.number.specs.Digits.{digitOf}
 use Rattle.number.specs.Numbers.{numberOf, numberIn, stepsOf, stepOf, startsWith}
 use Rattle.number.specs.declared.Number.{Number}
-use Rattle.marked.specs.Cases.{Fact, ofValue, withText, Expected, refusal, accepted, Case, cases, Says, Shown, AllShown, Met, Holds, AllHold, NumberHolds, listed, ended, ListingHolds}
+use Rattle.marked.specs.Cases.{Fact, ofValue, withText, Expected, refusal, accepted, Case, cases, Says, Shown, AllShown, Met, AllHold, NumberHolds, listed, ended, ListingHolds}
 
 -- The test.
 

@@ -1,19 +1,19 @@
 -- Laws of the vocabulary, which the crates above cite: fields and their bounds, refusals by number, sets as lists.
 use mathlib.Core.Path.{_≡_, refl, sym, ap, ap₂, _∙_, subst}
-use mathlib.Core.Bool.{Bool, true, false, cond}
+use mathlib.Core.Bool.{Bool, cond}
 use mathlib.Core.List.{List, [], _∷_, _++_, map, append-assoc, append-nil}
-use Prim.Native.Nat.{ℕ, zero, suc, _+_, _-_, _*_, _/_, _%_, _^_, _≤_, _<_}
-use native.Mathlib.Nat.{one-mul, mod-lt, mod-eq-of-lt, zero-mod, div-eq-of-lt, zero-add, lt-of-lt-of-le, lt-of-le-of-lt, le-of-suc-le-suc, not-suc-le-zero}
+use Prim.Native.Nat.{ℕ, suc, _+_, _-_, _*_, _/_, _%_, _^_, _≤_, _<_}
+use native.Mathlib.Nat.{one-mul, mod-lt, mod-eq-of-lt, zero-mod, div-eq-of-lt, zero-add, lt-of-lt-of-le, lt-of-le-of-lt}
 use native.Mathlib.Omega.{arith}
 use lib.Bits.{bitAnd, and-mask}
 use lib.Dec.{T, eqb, ltb, eqb→eq}
-use lib.ListN.{length, getD, replicate, set, length-append, length-map, length-replicate, List·getD-append}
+use lib.ListN.{length, replicate, set, length-append, length-map}
 use lib.Pow.{pow-pos, pow-mono, pow-lt, shr-le}
 use lib.Seq.{set-append-seam, take-append-seam}
 use borrow.Author.Tests.{lt-ltb}
 use Rattle.promise.proofs.Tests.{from, from-at}
 use Rattle.records.specs.Bits.{fieldOf}
-use Rattle.records.specs.Refusals.{refusalNumber, refusalCarries, refusals, refusalBy}
+use Rattle.records.specs.Refusals.{refusalNumber, refusalCarries, refusalBy}
 use Rattle.records.specs.Sets.{setRoom, noRecord, recordsOf, listOf}
 use Rattle.records.specs.declared.Record.{Record}
 use Rattle.records.specs.declared.Records.{Records}

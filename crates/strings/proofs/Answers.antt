@@ -7,7 +7,7 @@ use borrow.Author.Tests.{leb-true, leb-false, le-leb, lt-leb}
 use lib.Dec.{leb}
 use Rattle.promise.proofs.Tests.{both-left, both-right, true-is, is-true}
 use Rattle.texts.specs.Pool.{says, onList, ruleAt}
-use Rattle.texts.specs.Rules.{Rule, rules, message}
+use Rattle.texts.specs.Rules.{rules, message}
 use Rattle.texts.proofs.Laws.{says-below}
 use Rattle.records.specs.declared.Refusal.the-variants.{BadField}
 use Rattle.strings.specs.Asked.{valueString, binaryString, messageOf}

@@ -10,7 +10,7 @@ use lib.Dec.{eqb}
 use lib.ListN.{length, length-append}
 use lib.Pow.{shr-shr, pow-pos}
 use Rattle.texts.specs.Pool.{bytes, bytesAt, textCode}
-use Rattle.texts.specs.Rules.{Rule, message, messageEnd}
+use Rattle.texts.specs.Rules.{message, messageEnd}
 use Rattle.texts.proofs.Laws.{text-said}
 use Rattle.strings.specs.Digits.{digitsOf, unpadded}
 use Rattle.strings.specs.Fields.{valueText, binaryText, behindValue, fieldText, fits}

@@ -1,19 +1,18 @@
 -- Digits by division are the definition's, in any base; the fewest digits that hold a number are found by dividing until nothing is left.
-use mathlib.Core.Path.{_≡_, refl, sym, ap, _∙_, subst}
-use mathlib.Core.Bool.{Bool, true, false, cond}
-use mathlib.Core.List.{List, [], _∷_}
+use mathlib.Core.Path.{_≡_, refl, ap, subst}
+use mathlib.Core.Bool.{Bool}
+use mathlib.Core.List.{List, []}
 use Prim.Native.Nat.{ℕ, zero, suc, _+_, _-_, _*_, _/_, _%_, _^_, _≤_, _<_}
-use native.Mathlib.Nat.{div-div-eq-div-mul, pow-suc, zero-add, div-eq-of-lt, lt-of-le-of-lt, lt-of-lt-of-le, div-lt-iff-lt-mul, one-mul}
+use native.Mathlib.Nat.{div-div-eq-div-mul, pow-suc, zero-add, div-eq-of-lt, div-lt-iff-lt-mul, one-mul}
 use native.Mathlib.Numerals.{add-one}
 use native.Mathlib.Omega.{arith}
 use borrow.Author.Tests.{lt-ltb, le-ltb}
-use lib.Dec.{T, eqb, ltb, eqb→eq}
+use lib.Dec.{T, eqb, eqb→eq}
 use lib.ListN.{length, set}
-use lib.Pow.{pow-pos, pow-mono}
 use lib.Seq.{sets}
 use Rattle.promise.proofs.Tests.{from, from-at}
 use Rattle.texts.specs.Pool.{bytes}
-use Rattle.strings.specs.Digits.{digitChar, digitsOf, enough, unpadded}
+use Rattle.strings.specs.Digits.{digitChar, digitsOf, enough}
 use Rattle.put.proofs.Writing.{set-sets}
 
 -- the sixteen digits: ten figures, then letters

@@ -4,7 +4,7 @@ use mathlib.Core.Bool.{Bool, _&&_}
 use mathlib.Core.List.{List, _++_}
 use lib.Dec.{leb}
 use Rattle.texts.specs.Pool.{bytes, sayingOf}
-use Rattle.texts.specs.Rules.{Rule, message, messageEnd}
+use Rattle.texts.specs.Rules.{message, messageEnd}
 use Rattle.strings.specs.Digits.{digitsOf, unpadded}
 
 unfoldable pub messageText : ℕ → ℕ → List ℕ

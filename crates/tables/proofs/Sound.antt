@@ -2,9 +2,8 @@
 use mathlib.Core.Path.{_≡_, refl, sym, subst}
 use mathlib.Core.Bool.{Bool, true, false, cond, not, _&&_, _||_}
 use mathlib.Core.List.{List, [], _∷_, _++_, map}
-use Prim.Native.Nat.{ℕ, zero, suc, _+_, _^_, _≤_, _<_}
-use native.Mathlib.Nat.{le-of-suc-le-suc, not-suc-le-zero}
-use lib.Dec.{T, eqb, leb, ltb, leb→le, ltb→lt}
+use Prim.Native.Nat.{ℕ, zero, suc, _+_, _^_, _≤_}
+use lib.Dec.{T, eqb, leb, ltb, leb→le}
 use lib.ListN.{length, getD, length-map, List·getD-eq-default}
 use borrow.Author.Tests.{ltb-true, ltb-false}
 use Rattle.promise.proofs.Tests.{both-left, both-right, from, every, every-at}

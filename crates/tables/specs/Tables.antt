@@ -9,7 +9,7 @@ use Rattle.texts.specs.Pool.{code}
 use Rattle.texts.specs.Rules.{Rule, plain, className, il, issRes0, cv, rv, ti, mcrRead, offsetSign, am, ldcRead, ld64bIss, iOrD, aOrB, tfv, idf, ixf, uff, off, dzf, iof, debugStatus, stepValid, ex, watchWnR, faultStatus, setType, fnv, pfv, isv, sas, sf, ar, wu, fnp, fnpNotValid, wnr, ids, aet, serrorStatus, els, vfv, iesb, wnrv, wnrNotValid}
 use Rattle.records.specs.Rows.{free, coded, checked, unchecked}
 use Rattle.records.specs.declared.Row.{Row}
-use Rattle.tables.specs.Shape.{Line, Table, bits, unnamed, _when_, _unless_, _checking_, bit, _is_, status, external, farNotValid}
+use Rattle.tables.specs.Shape.{Table, bits, unnamed, _when_, _unless_, _checking_, bit, _is_, status, external, farNotValid}
 
 -- "Top records in order: RES0 37..64, ISS2 32..37 (unchecked), EC 26..32 with the class text, IL 25, ISS 0..25, then ISS's own."
 -- the manual: the field descriptions of ESR_ELx. ISS2 is free: nothing is asked of it, which is 01's "(unchecked)", and it is not reserved.

@@ -1,6 +1,6 @@
 -- What the crates above may rely on: every text is read back at its code, and what a rule says of a value stands at its code. Laws over
 -- any list of strings, by induction on it, and one computed test for each table.
-use mathlib.Core.Path.{_≡_, refl, sym, ap, ap₂, _∙_, subst}
+use mathlib.Core.Path.{_≡_, refl, sym, ap, _∙_, subst}
 use mathlib.Core.Bool.{Bool, true, false, cond, not, _&&_}
 use mathlib.Core.List.{List, [], _∷_, _++_, append-assoc}
 use Prim.Native.Nat.{ℕ, zero, suc, _+_, _-_, _≤_, _<_}
@@ -13,7 +13,7 @@ use lib.ListN.{length, getD, take, drop, replicate, length-append, length-replic
 use lib.Seq.{getD-append-add, drop-append-seam, take-append-seam, getD-take, getD-drop}
 use lib.Text.{eqt}
 use borrow.Author.Tests.{ltb-true, ltb-false, eqb-true}
-use Rattle.promise.proofs.Tests.{both-left, both-right, true-is, every, every-at}
+use Rattle.promise.proofs.Tests.{both-left, both-right, every, every-at}
 use Rattle.texts.specs.Names.{names}
 use Rattle.texts.specs.Rules.{Text, Rule, plain, rules, faultStatus, className}
 use Rattle.texts.specs.Pool.{textIn, onList, ruleAt, sayingOf, says, byValue, said, placesOf, nameRoom, texts, textAt, firstOf, textCode, bytes, bytesAt, flat, startsFrom, pool, starts, lengthIn, byteIn}

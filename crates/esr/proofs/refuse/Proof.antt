@@ -2,7 +2,6 @@
 use mathlib.Core.Path.{ap}
 use Rattle.records.specs.declared.Records.{Records}
 use Rattle.esr.specs.Decode.{refused}
-use Rattle.esr.specs.declared.Answer.{Answer}
 use borrow.Author.Needs.{needs}
 use Rattle.esr.proofs.refuse.Statement.{statement}
 use Rattle.esr.proofs.refuse.Tie as tie

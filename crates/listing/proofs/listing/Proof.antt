@@ -1,11 +1,10 @@
 -- The value is decoded or refused; then its listing is measured; then it is written, or the buffer is too short.
 use borrow.Author.Needs.{needs}
 use native.Mathlib.Omega.{arith}
-use mathlib.Core.Path.{_≡_, refl, sym, ap, _∙_}
+use mathlib.Core.Path.{_≡_, refl}
 use lib.ListN.{length}
 use Rattle.records.proofs.Laws.{long-as}
 use Rattle.listing.proofs.Answers.{listing-no, listing-yes, room}
-use Rattle.put.specs.Steps.{Lent}
 use Rattle.listing.specs.Listings.{inPool, listingFrom}
 use Rattle.records.specs.Sets.{listOf}
 use Rattle.strings.proofs.Kept.{by-refusal, by-shortness, by-writing}

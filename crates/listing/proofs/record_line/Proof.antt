@@ -1,11 +1,10 @@
 -- The value is decoded or refused, and then the index; then the line is measured; then it is written, or the buffer is too short.
 use borrow.Author.Needs.{needs}
 use native.Mathlib.Omega.{arith}
-use mathlib.Core.Path.{_≡_, refl, sym, ap, _∙_}
+use mathlib.Core.Path.{_≡_, refl}
 use lib.ListN.{length}
 use Rattle.records.proofs.Laws.{long-as}
 use Rattle.listing.proofs.Answers.{line-refused, line-no, line-yes}
-use Rattle.put.specs.Steps.{Lent}
 use Rattle.listing.specs.Listings.{lineText}
 use Rattle.records.specs.declared.Refusal.the-variants.{BadIndex}
 use Rattle.strings.proofs.Kept.{by-refusal, by-shortness, by-writing}

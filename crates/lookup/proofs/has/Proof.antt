@@ -1,6 +1,6 @@
 -- The bit is shifted down and masked; from 64 on there is none.
 use mathlib.Core.Path.{_≡_, sym, ap, _∙_}
-use mathlib.Core.Bool.{Bool, true, false, cond}
+use mathlib.Core.Bool.{Bool, false, cond}
 use Prim.Native.Nat.{ℕ, _/_, _%_, _^_}
 use lib.Bits.{and-mask}
 use lib.Dec.{eqb, ltb}

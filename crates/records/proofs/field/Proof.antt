@@ -1,6 +1,5 @@
 -- Shifted down and masked with as many ones as the field is wide; past the value's 64 bits by the laws of fields.
-use mathlib.Core.Path.{_≡_, sym}
-use Prim.Native.Nat.{_*_, _%_, _^_}
+use mathlib.Core.Path.{sym}
 use native.Mathlib.Omega.{arith}
 use lib.Pow.{pow-pos}
 use Rattle.records.specs.Bits.{fieldOf}

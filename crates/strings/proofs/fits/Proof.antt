@@ -1,6 +1,5 @@
 -- By cases of the width; that the value is below 2^width is shown by two shifts.
 use mathlib.Core.Path.{_≡_, refl, sym}
-use native.Mathlib.Omega.{arith}
 use Rattle.strings.proofs.Cases.{no-width, wide-width, big-value, good-value}
 use mathlib.Core.Bool.{Bool, true, false}
 use borrow.Author.Tests.{eqb-true, eqb-false}

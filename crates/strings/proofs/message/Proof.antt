@@ -1,10 +1,9 @@
 -- The number has a message or is refused; then it is measured; then it is written, or the buffer is too short.
 use borrow.Author.Needs.{needs}
 use native.Mathlib.Omega.{arith}
-use mathlib.Core.Path.{_≡_, refl, sym, ap, _∙_}
+use mathlib.Core.Path.{refl, sym, _∙_}
 use borrow.Author.Tests.{not-true, not-false}
 use Rattle.strings.proofs.Answers.{message-no, message-yes}
-use Rattle.put.specs.Steps.{Lent}
 use Rattle.strings.specs.Messages.{messageText}
 use Rattle.records.specs.declared.Refusal.the-variants.{BadField}
 use Rattle.strings.proofs.Kept.{by-refusal, by-shortness, by-writing}

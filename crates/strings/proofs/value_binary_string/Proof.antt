@@ -2,7 +2,7 @@
 use borrow.Author.Needs.{needs}
 use native.Mathlib.Omega.{arith}
 use borrow.Author.Tests.{not-true, not-false}
-use mathlib.Core.Path.{_≡_, refl, sym, ap, _∙_}
+use mathlib.Core.Path.{refl, sym, _∙_}
 use Rattle.strings.proofs.Cases.{length-binary}
 use Rattle.strings.proofs.Answers.{binary-no, binary-yes, width-small}
 use Rattle.strings.specs.Fields.{binaryText}

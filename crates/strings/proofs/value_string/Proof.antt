@@ -2,7 +2,7 @@
 use borrow.Author.Needs.{needs}
 use native.Mathlib.Omega.{arith}
 use borrow.Author.Tests.{not-true, not-false}
-use mathlib.Core.Path.{_≡_, refl, sym, ap, _∙_}
+use mathlib.Core.Path.{refl, sym, _∙_}
 use Rattle.strings.proofs.Answers.{value-no, value-yes, width-small}
 use Rattle.strings.specs.Fields.{valueText}
 use Rattle.records.specs.declared.Refusal.the-variants.{BadField}

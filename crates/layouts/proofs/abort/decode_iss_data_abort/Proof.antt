@@ -1,13 +1,13 @@
 -- By the answers of the four tests: bit 24, external, the status 0x10, bit 10. Where an arm did not ask a test, its answer does not matter.
 use borrow.Author.Needs.{needs}
-use mathlib.Core.Path.{_≡_, refl, sym, _∙_}
-use mathlib.Core.Bool.{Bool, true, false}
+use mathlib.Core.Path.{refl, sym, _∙_}
+use mathlib.Core.Bool.{true, false}
 use mathlib.Core.List.{List, [], _∷_}
 use Prim.Native.Nat.{ℕ}
 use Rattle.texts.specs.Names.{names}
 use Rattle.texts.specs.Pool.{code, placeIn}
 use Rattle.tables.specs.Shape.{Test, isSet, isStatus, isExternal}
-use Rattle.tables.specs.Layouts.{layoutFor, passes}
+use Rattle.tables.specs.Layouts.{passes}
 use Rattle.tables.specs.Tables.{dataAbort}
 use Rattle.layouts.proofs.Laws.{layout-at, passes-one, fails-one, passes-bit, passes-external}
 use Rattle.layouts.proofs.abort.decode_iss_data_abort.Statement.{statement}

@@ -1,15 +1,14 @@
 -- By the answers of the two tests of the status: external, and 0x10.
 use borrow.Author.Needs.{needs}
-use mathlib.Core.Path.{_≡_, refl, sym, _∙_}
-use mathlib.Core.Bool.{Bool, true, false}
+use mathlib.Core.Path.{refl, sym, _∙_}
+use mathlib.Core.Bool.{true, false}
 use mathlib.Core.List.{List, [], _∷_}
 use Prim.Native.Nat.{ℕ}
 use Rattle.texts.specs.Names.{names}
 use Rattle.texts.specs.Pool.{code, placeIn}
-use Rattle.tables.specs.Shape.{Test, isSet, isStatus, isExternal}
-use Rattle.tables.specs.Layouts.{layoutFor, passes}
+use Rattle.tables.specs.Shape.{Test, isStatus, isExternal}
 use Rattle.tables.specs.Tables.{instructionAbort}
-use Rattle.layouts.proofs.Laws.{layout-at, passes-one, fails-one, passes-bit, passes-external}
+use Rattle.layouts.proofs.Laws.{layout-at, passes-one, fails-one, passes-external}
 use Rattle.layouts.proofs.abort.decode_iss_instruction_abort.Statement.{statement}
 use Rattle.layouts.proofs.abort.decode_iss_instruction_abort.Tie as tie
 

@@ -1,11 +1,11 @@
 -- The compiler asks for 0x10 and for the range 0x13 to 0x17: within it a computed test finds each on the list, outside it none is.
-use mathlib.Core.Path.{_≡_, refl, sym, ap, _∙_, subst}
+use mathlib.Core.Path.{_≡_, sym, ap, subst}
 use mathlib.Core.Bool.{Bool, true, false}
 use Prim.Native.Nat.{ℕ, _+_, _-_, _≤_, _<_}
 use native.Mathlib.Omega.{arith}
 use lib.Dec.{T}
 use borrow.Author.Tests.{ne-eqb}
-use Rattle.promise.proofs.Tests.{from, from-at, true-is}
+use Rattle.promise.proofs.Tests.{from-at, true-is}
 use Rattle.tables.specs.Layouts.{member}
 use Rattle.tables.specs.Shape.{externals}
 use Rattle.layouts.proofs.abort.is_external_abort_fsc.Statement.{statement}

@@ -1,15 +1,13 @@
 -- By the answer of the one test, bit 24.
 use borrow.Author.Needs.{needs}
-use mathlib.Core.Path.{_≡_, refl, sym, _∙_}
-use mathlib.Core.Bool.{Bool, true, false}
+use mathlib.Core.Bool.{true, false}
 use mathlib.Core.List.{List, [], _∷_}
 use Prim.Native.Nat.{ℕ}
 use Rattle.texts.specs.Names.{names}
 use Rattle.texts.specs.Pool.{code, placeIn}
-use Rattle.tables.specs.Shape.{Test, isSet, isStatus, isExternal}
-use Rattle.tables.specs.Layouts.{layoutFor, passes}
+use Rattle.tables.specs.Shape.{Test, isSet}
 use Rattle.tables.specs.Tables.{softwareStep}
-use Rattle.layouts.proofs.Laws.{layout-at, passes-one, fails-one, passes-bit, passes-external}
+use Rattle.layouts.proofs.Laws.{layout-at, passes-bit}
 use Rattle.layouts.proofs.breakpoint.decode_iss_software_step.Statement.{statement}
 use Rattle.layouts.proofs.breakpoint.decode_iss_software_step.Tie as tie
 

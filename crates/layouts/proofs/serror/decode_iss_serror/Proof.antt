@@ -1,15 +1,15 @@
 -- By the answers of the three tests: bit 24, the status 0x11, bit 7. Where an arm did not ask a test, its answer does not matter.
 use borrow.Author.Needs.{needs}
-use mathlib.Core.Path.{_≡_, refl, sym, _∙_}
-use mathlib.Core.Bool.{Bool, true, false}
+use mathlib.Core.Path.{refl, sym, _∙_}
+use mathlib.Core.Bool.{true, false}
 use mathlib.Core.List.{List, [], _∷_}
 use Prim.Native.Nat.{ℕ}
 use Rattle.texts.specs.Names.{names}
 use Rattle.texts.specs.Pool.{code, placeIn}
-use Rattle.tables.specs.Shape.{Test, isSet, isStatus, isExternal}
-use Rattle.tables.specs.Layouts.{layoutFor, passes}
+use Rattle.tables.specs.Shape.{Test, isSet, isStatus}
+use Rattle.tables.specs.Layouts.{passes}
 use Rattle.tables.specs.Tables.{serror}
-use Rattle.layouts.proofs.Laws.{layout-at, passes-one, fails-one, passes-bit, passes-external}
+use Rattle.layouts.proofs.Laws.{layout-at, passes-one, fails-one, passes-bit}
 use Rattle.layouts.proofs.serror.decode_iss_serror.Statement.{statement}
 use Rattle.layouts.proofs.serror.decode_iss_serror.Tie as tie
 

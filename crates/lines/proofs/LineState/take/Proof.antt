@@ -2,7 +2,6 @@
 use mathlib.Core.Path.{ap, _∙_}
 use Rattle.lines.specs.Lines.{numberAfter, lineState, takenOf}
 use Rattle.lines.specs.declared.Stage.{Stage}
-use Rattle.lines.specs.declared.LineState.{LineState}
 use Rattle.number.specs.declared.NumberState.{NumberState}
 use borrow.Author.Needs.{needs}
 use Rattle.lines.proofs.LineState.take.Statement.{statement}

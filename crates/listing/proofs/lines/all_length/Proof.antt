@@ -1,6 +1,6 @@
 -- The invariant: the sum is the length of the listing of the records so far.
-use mathlib.Core.Path.{_≡_, refl, sym, ap}
-use Prim.Native.Nat.{_+_, _-_, _*_, _≤_, _<_}
+use mathlib.Core.Path.{_≡_, sym, ap}
+use Prim.Native.Nat.{_-_, _*_, _≤_, _<_}
 use lib.ListN.{length, take}
 use native.Mathlib.Omega.{arith}
 use Rattle.records.specs.Sets.{noRecord}

@@ -1,9 +1,8 @@
 -- By the index: ISS's own records are those from the sixth on.
-use mathlib.Core.Path.{_≡_, sym, ap}
+use mathlib.Core.Path.{sym, ap}
 use lib.ListN.{length}
 use native.Mathlib.Omega.{arith}
 use Rattle.listing.proofs.Cases.{indent-top, length-own}
-use borrow.Author.Needs.{needs}
 use Rattle.listing.proofs.lines.indent_length.Statement.{statement}
 use Rattle.listing.proofs.lines.indent_length.Tie as tie
 

@@ -1,8 +1,8 @@
 -- The invariant: the listing of the records so far stands at the buffer's front.
 use borrow.Author.Needs.{needs}
 use native.Mathlib.Omega.{arith}
-use mathlib.Core.Path.{_≡_, refl, sym, ap, subst}
-use Prim.Native.Nat.{ℕ, _+_, _-_, _≤_, _<_}
+use mathlib.Core.Path.{_≡_, refl}
+use Prim.Native.Nat.{_+_, _-_, _≤_, _<_}
 use lib.ListN.{length, take}
 use Rattle.records.proofs.Laws.{long-as}
 use Rattle.listing.proofs.Lengths.{one-more, length-more, front, no-lines}

@@ -1,6 +1,6 @@
 -- By the code: 0 is no text.
 use denote.Ref.{now}
-use mathlib.Core.Path.{_≡_, sym, ap}
+use mathlib.Core.Path.{sym, ap}
 use lib.ListN.{length}
 use native.Mathlib.Omega.{arith}
 use Rattle.put.proofs.Lent.{lent-length}

@@ -3,7 +3,6 @@ use mathlib.Core.Path.{ap}
 use lib.ListN.{replicate}
 use Rattle.records.specs.Sets.{setRoom, recordsOf}
 use Rattle.records.specs.declared.Record.{Record}
-use Rattle.records.specs.declared.Records.{Records}
 use borrow.Author.Needs.{needs}
 use Rattle.records.proofs.Records.empty.Statement.{statement}
 use Rattle.records.proofs.Records.empty.Tie as tie

@@ -5,7 +5,6 @@ use native.Mathlib.Omega.{arith}
 use lib.ListN.{getD, List·getD-eq-default}
 use Rattle.promise.proofs.Tests.{others-le}
 use Rattle.records.specs.Refusals.{refusals, refusalBy}
-use Rattle.records.specs.declared.Refusal.{Refusal}
 use Rattle.records.specs.declared.Refusal.the-variants.{None}
 use Rattle.records.proofs.Refusal.numbered.Statement.{statement}
 use Rattle.records.proofs.Refusal.numbered.Tie as tie

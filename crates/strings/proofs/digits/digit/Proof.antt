@@ -1,6 +1,4 @@
 -- Ten figures, then letters: the sixteen digits by two computed tests.
-use mathlib.Core.Path.{_≡_}
-use native.Mathlib.Omega.{arith}
 use Rattle.strings.proofs.Numerals.{figure-at, letter-at}
 use borrow.Author.Needs.{needs}
 use Rattle.strings.proofs.digits.digit.Statement.{statement}

@@ -4,7 +4,6 @@ use Prim.Native.Nat.{ℕ, suc, _+_, _-_, _/_, _^_, _≤_, _<_}
 use native.Mathlib.Omega.{arith}
 use Rattle.strings.specs.Digits.{enough, unpadded}
 use Rattle.strings.proofs.Numerals.{few-digits, rest-more, one-digit-more, enough-now}
-use native.Mathlib.Nat.{div-div-eq-div-mul, pow-suc}
 use native.Mathlib.Numerals.{add-one}
 use borrow.Author.Needs.{needs}
 use Rattle.strings.proofs.digits.unpadded_length.Statement.{statement}

@@ -1,5 +1,5 @@
 -- By cases of the width.
-use mathlib.Core.Path.{_≡_, sym, ap}
+use mathlib.Core.Path.{sym, ap}
 use lib.ListN.{length}
 use native.Mathlib.Omega.{arith}
 use Rattle.strings.proofs.Cases.{behind-bit, length-behind}

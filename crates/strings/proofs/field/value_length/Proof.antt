@@ -1,5 +1,4 @@
 -- By cases of the width and the value.
-use mathlib.Core.Path.{_≡_, sym}
 use native.Mathlib.Omega.{arith}
 use Rattle.strings.proofs.Cases.{length-true, length-false, length-wide}
 use borrow.Author.Needs.{needs}

@@ -1,7 +1,7 @@
 -- The parts of the message, one length after the other.
 use borrow.Author.Needs.{needs}
 use native.Mathlib.Omega.{arith}
-use mathlib.Core.Path.{_≡_, refl, sym, ap, _∙_}
+use mathlib.Core.Path.{ap, _∙_}
 use denote.Ref.{now}
 use Rattle.put.proofs.Lent.{lent-length}
 use Rattle.strings.proofs.Cases.{front, end, length-message}
