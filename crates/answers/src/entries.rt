@@ -2,7 +2,7 @@
 ghost use Prim.Native.Nat.{_<_};
 use super::listings::put_listed;
 use super::numbers::put_value;
-use super::refusals::put_refusal;
+use super::refused::put_refusal;
 
 fn wide(byte: u8) -> u64
     ensures { λ r. ⌜ r < 256 ⌝ }

@@ -17,7 +17,7 @@ mod entries;
 mod listings;
 mod numbers;
 mod record_lines;
-mod refusals;
+mod refused;
 
 // What a program reads, and what it says.
 pub enum Kind {
@@ -52,8 +52,12 @@ const ROOM: usize = 16384;
 // An entry is decided by its length field, two bytes, and the 65,535 that may follow.
 const BLOCK: usize = 65537;
 
+// Puts an answer behind what is held; where it might not fit there, what is held is written first.
 fn put_answer(kind: LineKind, buf: &mut [u8], from: usize, place: u64, number: Number) -> usize {
-    let at = out::room_for(buf, from, ROOM);
+    let mut at = from;
+    if !out::fits(buf, from, ROOM) {
+        at = out::flush(buf, from);
+    }
     match kind {
         LineKind::Number => return put_number(buf, at, number),
         LineKind::Records => return put_block(buf, at, number),

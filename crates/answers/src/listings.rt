@@ -2,7 +2,7 @@
 ghost use Prim.Native.Nat.{_≤_};
 ghost use lib.ListN.{length};
 use super::numbers::put_value;
-use super::refusals::put_refusal;
+use super::refused::put_refusal;
 use number::Number;
 use strings::Written;
 

@@ -1,5 +1,5 @@
 // A number, and the line that names a value.
-use super::refusals::put_refused;
+use super::refused::put_refused;
 use number::Number;
 
 pub(crate) fn put_value(buf: &mut [u8], from: usize, front: &[u8], value: u64) -> usize {

@@ -1,12 +1,12 @@
 // A canonical block: the value, then its refusal, or a line for each record.
 use super::numbers::put_number;
 use super::numbers::put_value;
-use super::refusals::put_message;
-use super::refusals::put_refused;
+use super::refused::put_message;
+use super::refused::put_refused;
 use number::Number;
 use records::Record;
 use records::Records;
-use records::Refusal;
+use refusals::Refusal;
 
 // ISS's own records come behind the five of the top.
 const TOP: usize = 5;
@@ -77,7 +77,7 @@ fn put_records(buf: &mut [u8], from: usize, records: Records) -> usize {
 fn put_carried(buf: &mut [u8], from: usize, refusal: Refusal) -> usize {
     let mut at = put_refused(buf, from, refusal);
     at = out::put(buf, at, b" carried=0x");
-    at = out::put_hex(buf, at, refusal.carries());
+    at = out::put_hex(buf, at, refusal.carries);
     at = out::put(buf, at, b" ");
     at = put_message(buf, at, refusal);
     out::put(buf, at, b"\n")

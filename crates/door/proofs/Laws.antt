@@ -12,10 +12,10 @@ use Rattle.esr.specs.Decode.{answerOf}
 use Rattle.esr.specs.declared.Answer.{Answer}
 use Rattle.strings.specs.Outcomes.{Outcome, Answers}
 use Rattle.strings.specs.declared.Written.{Written}
-use Rattle.records.specs.Refusals.{refusalNumber}
 use Rattle.records.specs.Sets.{setRoom, noRecord}
 use Rattle.records.specs.declared.Records.{Records}
-use Rattle.records.specs.declared.Refusal.the-variants.{None, ShortBuffer}
+use Rattle.refusals.specs.Refusals.{carrying, noRefusal, refusalNumber}
+use Rattle.refusals.specs.declared.Reason.the-variants.{ShortBuffer}
 use Rattle.door.specs.Answers.{toldAs}
 use Rattle.door.specs.Buffers.{front, filling, telling}
 use Rattle.door.specs.Places.{wordsOf, allWords, decoding}
@@ -43,18 +43,18 @@ module _ {A : Type 0} (content before : List A) (fits : length content ≤ lengt
       ap (λ (n : ℕ). soFar content before n) e ∙ ap (λ (l : List A). l ++ drop (length content) before) (take-length content)
 
 -- what is answered with it
-module _ {A : Type 0} (content before : List A) (count : ℕ) (is : count ≡ length content) (r : Filled) where
-  pub told-short : length before < count → r ≡ toldAs (ShortBuffer count) 0 → (r, before) ≡ filling content before
+module _ {A : Type 0} (content before : List A) {count : ℕ} (is : count ≡ length content) {r : Filled} where
+  pub told-short : length before < count → r ≡ toldAs (carrying ShortBuffer count) 0 → (r, before) ≡ filling content before
   unfolding filling
   told-short h e =
-      ap (λ (x : Filled). (x, before)) (e ∙ ap (λ (n : ℕ). toldAs (ShortBuffer n) 0) is)
+      ap (λ (x : Filled). (x, before)) (e ∙ ap (λ (n : ℕ). toldAs (carrying ShortBuffer n) 0) is)
       ∙ simp (lt-leb (length content) (length before) (omega arith))
 
-  pub told-filled : (after : List A) → count ≤ length before → r ≡ toldAs None count → after ≡ front content before
+  pub told-filled : {after : List A} → count ≤ length before → r ≡ toldAs noRefusal count → after ≡ front content before
       → (r, after) ≡ filling content before
   unfolding filling
-  told-filled after h e f =
-      ap₂ (λ (x : Filled) (l : List A). (x, l)) (e ∙ ap (toldAs None) is) f
+  told-filled h e f =
+      ap₂ (λ (x : Filled) (l : List A). (x, l)) (e ∙ ap (toldAs noRefusal) is) f
       ∙ simp (le-leb (length content) (length before) (omega arith))
 
 -- what is answered with a text of `strings` or `listing`
@@ -67,10 +67,10 @@ told-asked o before a e =
 -- The records of an answer.
 
 -- the refusal of the value, or its records
-module _ (esr : ℕ) (a : Answer) (number : ℕ) (is : a ≡ answerOf esr) (told : number ≡ refusalNumber (a .refusal)) (before : List (List ℕ)) where
-  pub decode-refused : (r : Filled) → (number ≡ 0 → ⊥) → r ≡ toldAs (a .refusal) 0 → (r, before) ≡ decoding esr before
+module _ (esr : ℕ) {a : Answer} {number : ℕ} (is : a ≡ answerOf esr) (told : number ≡ refusalNumber (a .refusal)) (before : List (List ℕ)) where
+  pub decode-refused : {r : Filled} → (number ≡ 0 → ⊥) → r ≡ toldAs (a .refusal) 0 → (r, before) ≡ decoding esr before
   unfolding decoding
-  decode-refused r h e =
+  decode-refused h e =
       ap (λ (x : Filled). (x, before)) e ∙ rw (← is) (rw (ne-eqb (refusalNumber (a .refusal)) 0 (λ z. h (told ∙ z))) refl)
 
   pub decode-read : number ≡ 0 → filling (allWords (a .records)) before ≡ decoding esr before

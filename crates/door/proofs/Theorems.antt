@@ -15,9 +15,9 @@ use Rattle.esr.specs.Decode.{answerOf}
 use Rattle.strings.specs.Outcomes.{Outcome, refused, text, refusal, answered, left}
 use Rattle.strings.specs.declared.Written.{Written}
 use Rattle.records.specs.Bits.{fieldOf}
-use Rattle.records.specs.Refusals.{refusalNumber, passed}
 use Rattle.records.specs.declared.Record.{Record}
-use Rattle.records.specs.declared.Refusal.the-variants.{None, ShortBuffer}
+use Rattle.refusals.specs.Refusals.{carrying, noRefusal, passed, reasonNumber}
+use Rattle.refusals.specs.declared.Reason.the-variants.{ShortBuffer}
 use Rattle.door.specs.Answers.{toldAs, entryTold}
 use Rattle.door.specs.Buffers.{filling, telling}
 use Rattle.door.specs.Places.{wordsOf, allWords, decoding}
@@ -48,7 +48,7 @@ told-kept (refused f) before = record { kept = λ h. refl }
 told-kept (text t) before = by-room (leb (length t) (length before))
   where
     by-room : (b : Bool)
-        → let w : Written = cond b (record { refusal = None; bytes = length t }) (refusal (ShortBuffer (length t))) in
+        → let w : Written = cond b (record { refusal = noRefusal; bytes = length t }) (refusal (carrying ShortBuffer (length t))) in
         Kept before (toldAs (w .refusal) (w .bytes), cond b (t ++ drop (length t) before) before)
     by-room true = record { kept = λ h. absurd (h refl) }
     by-room false = record { kept = λ h. refl }
@@ -87,10 +87,10 @@ body-there s = by (sound s) refl
   where
     by : (b : Bool) → sound s ≡ b → take (length (bodyOf s)) (drop (cond b 2 0) s) ≡ bodyOf s
     by true h =
-        let free : refusalNumber (judged s) ≡ 0 = eqb-true (refusalNumber (judged s)) 0 h in
+        let free : reasonNumber (judged s) ≡ 0 = eqb-true (reasonNumber (judged s)) 0 h in
         let is = body-sound s free in
         let n : length (bodyOf s) ≡ 11 = ap length is ∙ length-take-le 11 (drop 2 s) (omega (arith, facts s free .long, length-drop 2 s)) in
         ap (λ (k : ℕ). take k (drop 2 s)) n ∙ sym is
     by false h =
-        let none = body-refused s (eqb-false (refusalNumber (judged s)) 0 h) in
+        let none = body-refused s (eqb-false (reasonNumber (judged s)) 0 h) in
         ap (λ (k : ℕ). take k s) (ap length none) ∙ sym none

@@ -5,8 +5,9 @@ use mathlib.Core.List.{List, _++_}
 use lib.Dec.{leb}
 use lib.ListN.{length, drop}
 use Rattle.strings.specs.Outcomes.{Outcome, answered, left}
-use Rattle.records.specs.declared.Refusal.{Refusal}
-use Rattle.records.specs.declared.Refusal.the-variants.{None, ShortBuffer}
+use Rattle.refusals.specs.Refusals.{carrying, noRefusal}
+use Rattle.refusals.specs.declared.Reason.the-variants.{ShortBuffer}
+use Rattle.refusals.specs.declared.Refusal.{Refusal}
 use Rattle.door.specs.Answers.{toldAs}
 use Rattle.door.specs.declared.Filled.{Filled}
 
@@ -20,8 +21,8 @@ refusing f before = (toldAs f 0, before)
 unfoldable pub filling : {A : Type 0} → List A → List A → Filled × List A
 filling content before =
     cond (leb (length content) (length before))
-    (toldAs None (length content), front content before)
-    (refusing (ShortBuffer (length content)) before)
+    (toldAs noRefusal (length content), front content before)
+    (refusing (carrying ShortBuffer (length content)) before)
 
 -- a text of the crates `strings` and `listing`, or its refusal: its own answer in numbers, and the buffer as it leaves it
 unfoldable pub telling : Outcome → List ℕ → Filled × List ℕ

@@ -3,10 +3,10 @@ use Prim.Native.Nat.{ℕ, _+_, _*_, _^_}
 use mathlib.Core.Bool.{cond}
 use mathlib.Core.List.{List, [], _∷_, map}
 use Rattle.esr.specs.Decode.{answerOf}
-use Rattle.records.specs.Refusals.{passed}
 use Rattle.records.specs.Sets.{listOf}
 use Rattle.records.specs.declared.Record.{Record}
 use Rattle.records.specs.declared.Records.{Records}
+use Rattle.refusals.specs.Refusals.{passed}
 use Rattle.door.specs.Buffers.{refusing, filling}
 use Rattle.door.specs.declared.Filled.{Filled}
 

@@ -5,16 +5,16 @@ ghost use Rattle.door.specs.Answers.{toldAs};
 ghost use Rattle.door.specs.Buffers.{front};
 ghost use Rattle.door.specs.Places.{wordsOf, allWords};
 ghost use Rattle.door.specs.Promises.{BinaryPut, DecodedInto, EntryTold, LinePut, ListingPut, MessagePut, NumberTold, TextPut, ValuePut};
-ghost use Rattle.records.specs.Refusals.{refusalNumber};
 ghost use Rattle.records.specs.Sets.{setRoom};
+ghost use Rattle.refusals.specs.Refusals.{passed};
 ghost use Rattle.texts.specs.Pool.{bytesAt};
-ghost use lib.Dec.{eqb};
 ghost use lib.ListN.{length};
 ghost use mathlib.Core.Bool.{cond};
 ghost use mathlib.Core.Path.{_≡_};
 use records::Record;
 use records::Records;
-use records::Refusal;
+use refusals::Reason;
+use refusals::Refusal;
 use strings::Written;
 
 // How many places or bytes the front of the caller's array now holds; none on a refusal.
@@ -50,7 +50,7 @@ fn told(refusal: Refusal, count: usize) -> Filled
     ensures { λ r. ⌜ r ≡ toldAs refusal count ⌝ }
 {
     Filled {
-        carried: refusal.carries(),
+        carried: refusal.carries,
         count,
         refusal: refusal.number(),
     }
@@ -99,10 +99,16 @@ pub extern "C" fn esr_decode(esr: u64, places: &mut [[u64; 2]]) -> Filled
     }
     let count = answer.records.count;
     if places.len() < count {
-        return told(Refusal::ShortBuffer(count as u64), 0);
+        return told(
+            Refusal {
+                carries: count as u64,
+                reason: Reason::ShortBuffer,
+            },
+            0,
+        );
     }
     put_records(answer.records, places);
-    told(Refusal::None, count)
+    told(Refusal::NONE, count)
 }
 
 fn put_text(code: u16, buf: &mut [u8])
@@ -125,10 +131,16 @@ pub extern "C" fn esr_text(code: u16, buf: &mut [u8]) -> Filled
 {
     let length = lookup::length_of(code) as usize;
     if buf.len() < length {
-        return told(Refusal::ShortBuffer(length as u64), 0);
+        return told(
+            Refusal {
+                carries: length as u64,
+                reason: Reason::ShortBuffer,
+            },
+            0,
+        );
     }
     put_text(code, buf);
-    told(Refusal::None, length)
+    told(Refusal::NONE, length)
 }
 
 #[no_mangle]
@@ -174,14 +186,14 @@ pub extern "C" fn esr_parse_number(s: &[u8]) -> NumberAnswer
     let refusal = number.refusal;
     NumberAnswer {
         value: number.value,
-        carried: refusal.carries(),
+        carried: refusal.carries,
         refusal: refusal.number(),
     }
 }
 
 // Where the body starts in the block: behind the length's bytes, where there is one.
 fn body_start(refusal: Refusal) -> usize
-    ensures { λ r. ⌜ r ≡ cond (eqb (refusalNumber refusal) 0) 2 0 ⌝ }
+    ensures { λ r. ⌜ r ≡ cond (passed refusal) 2 0 ⌝ }
 {
     if refusal.number() == 0 {
         return LENGTH_BYTES;
@@ -198,7 +210,7 @@ pub extern "C" fn esr_read_entry(block: &[u8]) -> EntryAnswer
     let body = entry::entry_body(block);
     EntryAnswer {
         esr: numbers.esr,
-        carried: refusal.carries(),
+        carried: refusal.carries,
         start: body_start(refusal),
         length: body.len(),
         sequence: numbers.sequence,

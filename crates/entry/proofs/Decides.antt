@@ -7,4 +7,4 @@ pub read-entry-decides : Decides Read
 read-entry-decides s a b = same
 
 pub entry-body-decides : Decides Body
-entry-body-decides s a b = same
+entry-body-decides block a b = same

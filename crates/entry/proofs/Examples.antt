@@ -7,7 +7,7 @@ use lib.ListN.{replicate}
 use Rattle.entry.specs.BigEndian.{behind}
 use Rattle.entry.specs.Entries.{judged}
 use Rattle.promise.proofs.Tests.{every}
-use Rattle.records.specs.Refusals.{refusalNumber}
+use Rattle.refusals.specs.Refusals.{reasonNumber}
 
 record Example : Type 0 where
   block : List ℕ
@@ -36,7 +36,7 @@ examples =
     []
 
 abbrev holds : ℕ → Example → Bool
-holds place e = eqb (refusalNumber (judged (e .block))) (e .refusal)
+holds place e = eqb (reasonNumber (judged (e .block))) (e .refusal)
 
 all-hold : T (every holds 0 examples)
 unfolding behind judged

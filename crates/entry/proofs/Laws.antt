@@ -14,9 +14,9 @@ use lib.Seq.{drop-cons, drop-length, length-take-le}
 use borrow.Author.Tests.{lt-ltb, le-ltb, eq-eqb, ne-eqb, ltb-false, eqb-true}
 use Rattle.entry.specs.BigEndian.{behind, bigEndian, bytesAt}
 use Rattle.entry.specs.Entries.{lengthIn, versionIn, sequenceIn, esrIn, judged, entryOf, bodyOf}
-use Rattle.records.specs.Refusals.{refusalNumber}
-use Rattle.records.specs.declared.Refusal.{Refusal}
-use Rattle.records.specs.declared.Refusal.the-variants.{None, ShortEntry, BadLength, BadVersion}
+use Rattle.refusals.specs.Refusals.{bare, noRefusal, reasonNumber}
+use Rattle.refusals.specs.declared.Reason.{Reason}
+use Rattle.refusals.specs.declared.Reason.the-variants.{None, ShortEntry, BadLength, BadVersion}
 
 -- Big-endian numbers.
 
@@ -89,7 +89,7 @@ pub record Facts (s : List ℕ) : Type 0 where
   pub first : versionIn s ≡ 1
 
 passed : (a b c d e : Bool)
-    → refusalNumber (cond a ShortEntry (cond b BadLength (cond c ShortEntry (cond (not d) BadVersion (cond (not e) BadLength None))))) ≡ 0
+    → reasonNumber (cond a ShortEntry (cond b BadLength (cond c ShortEntry (cond (not d) BadVersion (cond (not e) BadLength None))))) ≡ 0
     → (c ≡ false) × (d ≡ true) × (e ≡ true)
 passed true b c d e h = absurd (omega arith)
 passed false true c d e h = absurd (omega arith)
@@ -98,7 +98,7 @@ passed false false false false e h = absurd (omega arith)
 passed false false false true false h = absurd (omega arith)
 passed false false false true true h = (refl, refl, refl)
 
-pub facts : (s : List ℕ) → refusalNumber (judged s) ≡ 0 → Facts s
+pub facts : (s : List ℕ) → reasonNumber (judged s) ≡ 0 → Facts s
 unfolding judged
 facts s h =
     let n : ℕ = lengthIn s in
@@ -116,8 +116,8 @@ from-facts s f =
     judged-sound s (lengthIn s) refl (omega arith) (omega (arith, f .eleven)) (omega (arith, f .eleven, f .long))
     (sym (one-byte s 2 two) ∙ f .first) (f .eleven)
 
-module _ (s : List ℕ) (free : refusalNumber (judged s) ≡ 0) where
-  pub entry-sound : entryOf s ≡ record { esr = esrIn s; refusal = None; sequence = sequenceIn s }
+module _ (s : List ℕ) (free : reasonNumber (judged s) ≡ 0) where
+  pub entry-sound : entryOf s ≡ record { esr = esrIn s; refusal = noRefusal; sequence = sequenceIn s }
   unfolding entryOf
   entry-sound = simp (eq-eqb _ _ free)
 
@@ -125,8 +125,8 @@ module _ (s : List ℕ) (free : refusalNumber (judged s) ≡ 0) where
   unfolding bodyOf
   body-sound = simp (eq-eqb _ _ free)
 
-module _ (s : List ℕ) (bad : refusalNumber (judged s) ≡ 0 → ⊥) where
-  pub entry-refused : entryOf s ≡ record { esr = 0; refusal = judged s; sequence = 0 }
+module _ (s : List ℕ) (bad : reasonNumber (judged s) ≡ 0 → ⊥) where
+  pub entry-refused : entryOf s ≡ record { esr = 0; refusal = bare (judged s); sequence = 0 }
   unfolding entryOf
   entry-refused = simp (ne-eqb _ _ bad)
 
@@ -135,9 +135,9 @@ module _ (s : List ℕ) (bad : refusalNumber (judged s) ≡ 0 → ⊥) where
   body-refused = simp (ne-eqb _ _ bad)
 
 -- a refusal's number tells whether there is one
-module _ {f g : Refusal} {n : ℕ} (e : f ≡ g) (told : n ≡ refusalNumber f) where
-  pub told-sound : n ≡ 0 → refusalNumber g ≡ 0
-  told-sound z = sym (ap refusalNumber e) ∙ sym told ∙ z
+module _ {f g : Reason} {n : ℕ} (e : f ≡ g) (told : n ≡ reasonNumber f) where
+  pub told-sound : n ≡ 0 → reasonNumber g ≡ 0
+  told-sound z = sym (ap reasonNumber e) ∙ sym told ∙ z
 
-  pub told-refused : (n ≡ 0 → ⊥) → refusalNumber g ≡ 0 → ⊥
-  told-refused bad z = bad (told ∙ ap refusalNumber e ∙ z)
+  pub told-refused : (n ≡ 0 → ⊥) → reasonNumber g ≡ 0 → ⊥
+  told-refused bad z = bad (told ∙ ap reasonNumber e ∙ z)

@@ -1,25 +1,23 @@
--- What the promises come to: reading and writing undo each other, so that the bytes of a sound entry are those of its numbers, and the first
--- 13 bytes decide. A number's bytes are its digits in base 256, one law for any count; a block is cut into the parts that it has.
+-- What the promises come to: reading and writing undo each other, so that the bytes of a sound entry are those of its numbers, and what
+-- follows them changes nothing. A number's bytes are its digits in base 256, one law for any count; a block is cut into the parts that it has.
 use Prim.Native.Nat.{ℕ, zero, suc, _+_, _*_, _/_, _%_, _^_, _≤_, _<_}
 use mathlib.Core.Bool.{Bool, true, false}
 use mathlib.Core.List.{List, [], _∷_, _++_}
-use mathlib.Core.Logic.{_⊎_, inl, inr}
 use mathlib.Core.Path.{_≡_, refl, sym, ap, ap₂, _∙_}
 use native.Mathlib.Nat.{add-mul, mul-assoc, div-one, div-div-eq-div-mul, mod-one, mod-eq-of-lt, one-le-pow, pow-suc, pow-succ'}
 use native.Mathlib.Omega.{arith}
 use lib.Arith.{digits-div, digits-mod, mod-mul}
 use lib.Dec.{T, ltb, ltb→lt}
-use lib.ListN.{length, take, drop, length-take, length-drop}
+use lib.ListN.{length, take, drop, length-drop}
 use lib.Pow.{areBytes}
-use lib.Seq.{drop-drop, length-take-le, take-add, take-take}
+use lib.Seq.{drop-drop, length-take-le, take-add}
 use borrow.Author.Tests.{eqb-true, eqb-false}
 use Rattle.entry.proofs.Laws.{Facts, facts, from-facts, entry-sound, entry-refused, body-sound, body-refused}
 use Rattle.entry.specs.BigEndian.{behind, bigEndian, bytesAt, written}
 use Rattle.entry.specs.Entries.{sequenceIn, esrIn, judged, sound, entryOf, bodyOf, bodyBytes, entryBytes}
 use Rattle.entry.specs.declared.Entry.{Entry}
 use Rattle.promise.proofs.Tests.{both-left, both-right, both-intro}
-use Rattle.records.specs.Refusals.{refusalNumber}
-use Rattle.records.specs.declared.Refusal.the-variants.{None}
+use Rattle.refusals.specs.Refusals.{bare, noRefusal, reasonNumber, refusalNumber}
 
 -- Numbers and their bytes.
 
@@ -88,33 +86,26 @@ part-written place count s t h =
 parts : (place m n : ℕ) (s : List ℕ) → bytesAt place (m + n) s ≡ bytesAt place m s ++ bytesAt (place + m) n s
 parts place m n s = take-add m n (drop place s) ∙ ap (λ (l : List ℕ). take m (drop place s) ++ take n l) (drop-drop m place s)
 
--- a part of the front of a block is that part of the block
-part-of-front : (place count n : ℕ) (s : List ℕ) → place + count ≤ n → bytesAt place count (take n s) ≡ bytesAt place count s
-part-of-front zero count n s h = take-take count n s (omega arith)
-part-of-front (suc place) count zero s h = absurd (omega arith)
-part-of-front (suc place) count (suc n) [] h = refl
-part-of-front (suc place) count (suc n) (b ∷ s) h = part-of-front place count n s (omega arith)
-
 -- Entries.
 
 -- an entry's refusal is the judgement
-pub refusal-is : (s : List ℕ) → entryOf s .refusal ≡ judged s
+pub refusal-is : (s : List ℕ) → entryOf s .refusal ≡ bare (judged s)
 refusal-is s = by-test (sound s) refl
   where
-    by-test : (t : Bool) → sound s ≡ t → entryOf s .refusal ≡ judged s
+    by-test : (t : Bool) → sound s ≡ t → entryOf s .refusal ≡ bare (judged s)
     by-test true h =
-        let free = eqb-true (refusalNumber (judged s)) 0 h in
-        ap (λ (e : Entry). e .refusal) (entry-sound s free) ∙ sym (from-facts s (facts s free))
-    by-test false h = ap (λ (e : Entry). e .refusal) (entry-refused s (eqb-false (refusalNumber (judged s)) 0 h))
+        let free = eqb-true (reasonNumber (judged s)) 0 h in
+        ap (λ (e : Entry). e .refusal) (entry-sound s free) ∙ sym (ap bare (from-facts s (facts s free)))
+    by-test false h = ap (λ (e : Entry). e .refusal) (entry-refused s (eqb-false (reasonNumber (judged s)) 0 h))
 
 -- on a refusal the numbers are 0 and the body is empty
-pub refused-nothing : (s : List ℕ) → (entryOf s .refusal ≡ None → ⊥) → (entryOf s .sequence ≡ 0) × (entryOf s .esr ≡ 0) × (bodyOf s ≡ [])
+pub refused-nothing : (s : List ℕ) → (entryOf s .refusal ≡ noRefusal → ⊥) → (entryOf s .sequence ≡ 0) × (entryOf s .esr ≡ 0) × (bodyOf s ≡ [])
 refused-nothing s h =
-    let bad : refusalNumber (judged s) ≡ 0 → ⊥ = λ z. h (refusal-is s ∙ from-facts s (facts s z)) in
+    let bad : reasonNumber (judged s) ≡ 0 → ⊥ = λ z. h (refusal-is s ∙ ap bare (from-facts s (facts s z))) in
     (ap (λ (e : Entry). e .sequence) (entry-refused s bad), ap (λ (e : Entry). e .esr) (entry-refused s bad), body-refused s bad)
 
-module _ (s : List ℕ) (sound-entry : entryOf s .refusal ≡ None) where
-  free : refusalNumber (judged s) ≡ 0
+module _ (s : List ℕ) (sound-entry : entryOf s .refusal ≡ noRefusal) where
+  free : reasonNumber (judged s) ≡ 0
   free = ap refusalNumber (sym (refusal-is s) ∙ sound-entry)
 
   all-facts : Facts s
@@ -126,39 +117,8 @@ module _ (s : List ℕ) (sound-entry : entryOf s .refusal ≡ None) where
   the-esr : entryOf s .esr ≡ esrIn s
   the-esr = ap (λ (e : Entry). e .esr) (entry-sound s free)
 
--- an accepted block that agrees with another in its first 13 bytes: the other is sound, and has the same numbers and body
-module _ (s t : List ℕ) (front : take 13 s ≡ take 13 t) where
-  same-part : (place count : ℕ) → place + count ≤ 13 → bytesAt place count t ≡ bytesAt place count s
-  same-part place count h =
-      sym (part-of-front place count 13 t h) ∙ ap (bytesAt place count) (sym front) ∙ part-of-front place count 13 s h
-
-  same-facts : Facts s → Facts t
-  same-facts f =
-      record {
-        long = omega (arith, length-take-le 13 s (f .long), ap length front, length-take 13 t);
-        eleven = ap bigEndian (same-part 0 2 (omega arith)) ∙ f .eleven;
-        first = ap bigEndian (same-part 2 1 (omega arith)) ∙ f .first;
-      }
-
-  same-answers : entryOf s .refusal ≡ None → (entryOf s ≡ entryOf t) × (bodyOf s ≡ bodyOf t)
-  same-answers e =
-      let other : refusalNumber (judged t) ≡ 0 = ap refusalNumber (from-facts t (same-facts (all-facts s e))) in (
-        entry-sound s (free s e)
-            ∙ ap₂ (λ (q v : ℕ). record { esr = v; refusal = None; sequence = q })
-            (ap bigEndian (sym (same-part 3 2 (omega arith))))
-            (ap bigEndian (sym (same-part 5 8 (omega arith))))
-            ∙ sym (entry-sound t other),
-        body-sound s (free s e) ∙ sym (same-part 2 11 (omega arith)) ∙ sym (body-sound t other),
-      )
-
--- two blocks that agree in their first 13 bytes get the same numbers and the same body where either is accepted
-pub front-decides : (s t : List ℕ) → take 13 s ≡ take 13 t → (entryOf s .refusal ≡ None) ⊎ (entryOf t .refusal ≡ None)
-    → (entryOf s ≡ entryOf t) × (bodyOf s ≡ bodyOf t)
-front-decides s t h (inl e) = same-answers s t h e
-front-decides s t h (inr e) = let w = same-answers t s (sym h) e in (sym (w .0), sym (w .1))
-
 -- the body's bytes are those of the numbers: version, sequence and ESR, written big-endian again
-pub body-of-numbers : (s : List ℕ) → T (areBytes s) → entryOf s .refusal ≡ None
+pub body-of-numbers : (s : List ℕ) → T (areBytes s) → entryOf s .refusal ≡ noRefusal
     → bodyOf s ≡ bodyBytes (entryOf s .sequence) (entryOf s .esr)
 body-of-numbers s t e =
     let f : Facts s = all-facts s e in
@@ -172,7 +132,7 @@ body-of-numbers s t e =
     (sym (part-written 5 8 s t (omega (arith, f .long))) ∙ ap (written 8) (sym (the-esr s e))))
 
 -- an accepted block's first 13 bytes are its entry, written again from its numbers
-pub entry-of-numbers : (s : List ℕ) → T (areBytes s) → entryOf s .refusal ≡ None
+pub entry-of-numbers : (s : List ℕ) → T (areBytes s) → entryOf s .refusal ≡ noRefusal
     → take 13 s ≡ entryBytes (entryOf s .sequence) (entryOf s .esr)
 entry-of-numbers s t e =
     let f : Facts s = all-facts s e in
@@ -183,10 +143,10 @@ entry-of-numbers s t e =
 
 -- every sequence and every ESR has an entry, and it is read whatever follows: a reader that refuses all would not do
 pub written-is-read : (sequence esr : ℕ) (rest : List ℕ) → sequence < 256 ^ 2 → esr < 256 ^ 8
-    → entryOf (entryBytes sequence esr ++ rest) ≡ record { esr = esr; refusal = None; sequence = sequence }
+    → entryOf (entryBytes sequence esr ++ rest) ≡ record { esr = esr; refusal = noRefusal; sequence = sequence }
 unfolding behind written
 written-is-read sequence esr rest hs he =
     let s : List ℕ = entryBytes sequence esr ++ rest in
     let f : Facts s = record { long = omega arith; eleven = refl; first = refl } in
-    entry-sound s (ap refusalNumber (from-facts s f))
-    ∙ ap₂ (λ (q v : ℕ). record { esr = v; refusal = None; sequence = q }) (read-written 2 sequence hs) (read-written 8 esr he)
+    entry-sound s (ap reasonNumber (from-facts s f))
+    ∙ ap₂ (λ (q v : ℕ). record { esr = v; refusal = noRefusal; sequence = q }) (read-written 2 sequence hs) (read-written 8 esr he)

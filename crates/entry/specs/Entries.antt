@@ -3,12 +3,13 @@ use Prim.Native.Nat.{ℕ, _+_}
 use mathlib.Core.Bool.{Bool, cond, not}
 use mathlib.Core.List.{List, [], _++_}
 use lib.Dec.{eqb, ltb}
+use denote.Ref.{RefT}
 use lib.ListN.{length}
 use Rattle.entry.specs.BigEndian.{bigEndian, bytesAt, written}
 use Rattle.entry.specs.declared.Entry.{Entry}
-use Rattle.records.specs.Refusals.{passed}
-use Rattle.records.specs.declared.Refusal.{Refusal}
-use Rattle.records.specs.declared.Refusal.the-variants.{None, ShortEntry, BadLength, BadVersion}
+use Rattle.refusals.specs.Refusals.{bare, noRefusal, passed}
+use Rattle.refusals.specs.declared.Reason.{Reason}
+use Rattle.refusals.specs.declared.Reason.the-variants.{None, ShortEntry, BadLength, BadVersion}
 
 -- the numbers of a block, each by its place and how many bytes it has
 abbrev pub lengthIn : List ℕ → ℕ
@@ -24,7 +25,7 @@ abbrev pub esrIn : List ℕ → ℕ
 esrIn s = bigEndian (bytesAt 5 8 s)
 
 -- the judgement, in 01's order: fewer than 2 bytes, 14; length 0, 15; fewer than 2 + length, 14; version, 16; length not 11, 15
-unfoldable pub judged : List ℕ → Refusal
+unfoldable pub judged : List ℕ → Reason
 judged s =
     cond (ltb (length s) 2) ShortEntry
     (cond (eqb (lengthIn s) 0) BadLength
@@ -34,18 +35,38 @@ judged s =
     None))))
 
 abbrev pub sound : List ℕ → Bool
-sound s = passed (judged s)
+sound s = passed (bare (judged s))
 
 -- the numbers of a sound entry; on a refusal each is 0
 unfoldable pub entryOf : List ℕ → Entry
 entryOf s =
     cond (sound s)
-    (record { esr = esrIn s; refusal = None; sequence = sequenceIn s })
-    (record { esr = 0; refusal = judged s; sequence = 0 })
+    (record { esr = esrIn s; refusal = noRefusal; sequence = sequenceIn s })
+    (record { esr = 0; refusal = bare (judged s); sequence = 0 })
 
 -- the bytes after the length, 11 whatever follows them; none on a refusal
 unfoldable pub bodyOf : List ℕ → List ℕ
 bodyOf s = cond (sound s) (bytesAt 2 11 s) []
+
+-- Which bytes of memory those are.
+
+-- bytes in memory: which piece of memory they lie in, where they begin there, and what they are
+pub record Part : Type 0 where
+  pub memory : ℕ
+  pub place : ℕ
+  pub bytes : List ℕ
+
+-- the bytes that a reference lends
+abbrev pub lent : RefT (List ℕ) → Part
+lent r = record { memory = r .ptr .0; place = r .ptr .1; bytes = r .now }
+
+-- where the body begins: behind the length; on a refusal where the block does
+abbrev pub bodyStart : List ℕ → ℕ
+bodyStart s = cond (sound s) 2 0
+
+-- the body is those same bytes of the block: in its memory, as far behind its place as the body begins
+abbrev pub bodyIn : Part → Part
+bodyIn block = record { memory = block .memory; place = bodyStart (block .bytes) + block .place; bytes = bodyOf (block .bytes) }
 
 -- An entry written from its numbers.
 

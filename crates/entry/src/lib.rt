@@ -1,11 +1,12 @@
 // Reads one flash entry, big-endian: its numbers, and its body as a part of the caller's own block.
 ghost use Prim.Native.Nat.{_<_, _^_, _≤_};
 ghost use Rattle.entry.specs.BigEndian.{bigEndian};
-ghost use Rattle.entry.specs.Entries.{judged};
+ghost use Rattle.entry.specs.Entries.{judged, lent};
 ghost use Rattle.entry.specs.Promises.{Body, Read};
 ghost use lib.ListN.{length};
 ghost use mathlib.Core.Path.{_≡_};
-use records::Refusal;
+use refusals::Reason;
+use refusals::Refusal;
 
 // The bytes that follow the length: version, sequence, ESR.
 const LENGTH: u64 = 11;
@@ -34,36 +35,36 @@ fn big_endian(s: &[u8]) -> u64
 }
 
 // One judgement for the numbers and for the body, in 01's order.
-fn judge(block: &[u8]) -> Refusal
+fn judge(block: &[u8]) -> Reason
     ensures { λ r. ⌜ r ≡ judged (now (block .entry)) ⌝ }
 {
     if block.len() < 2 {
-        return Refusal::ShortEntry;
+        return Reason::ShortEntry;
     }
     let length = big_endian(&block[0..2]);
     if length == 0 {
-        return Refusal::BadLength;
+        return Reason::BadLength;
     }
     if (block.len() as u64) < 2 + length {
-        return Refusal::ShortEntry;
+        return Reason::ShortEntry;
     }
     if block[2] != VERSION {
-        return Refusal::BadVersion;
+        return Reason::BadVersion;
     }
     if length != LENGTH {
-        return Refusal::BadLength;
+        return Reason::BadLength;
     }
-    Refusal::None
+    Reason::None
 }
 
 pub fn read_entry(block: &[u8]) -> Entry
     ensures { λ r. ⌜ Read (now (block .entry)) r ⌝ }
 {
-    let refusal = judge(block);
-    if refusal.number() != 0 {
+    let reason = judge(block);
+    if reason.number() != 0 {
         return Entry {
             esr: 0,
-            refusal,
+            refusal: Refusal { carries: 0, reason },
             sequence: 0,
         };
     }
@@ -71,17 +72,17 @@ pub fn read_entry(block: &[u8]) -> Entry
     let esr = big_endian(&block[5..13]);
     Entry {
         esr,
-        refusal: Refusal::None,
+        refusal: Refusal::NONE,
         sequence: sequence as u16,
     }
 }
 
 // A part of the caller's own block: 11 bytes whatever follows them, and none on a refusal.
 pub fn entry_body(block: &[u8]) -> &[u8]
-    ensures { λ r. ⌜ Body (now (block .entry)) (now r) ⌝ }
+    ensures { λ r. ⌜ Body (lent (block .entry)) (lent r) ⌝ }
 {
-    let refusal = judge(block);
-    if refusal.number() != 0 {
+    let reason = judge(block);
+    if reason.number() != 0 {
         return &block[0..0];
     }
     &block[2..13]

@@ -1,16 +1,17 @@
 // The decoder: the class table, the top rows, the checks in order, the walk from high bits to low.
 ghost use Prim.Native.Nat.{_<_};
-ghost use Rattle.esr.specs.Decode.{failureFor, layoutNumber, recordsFor, refused, tableAnswer};
+ghost use Rattle.esr.specs.Decode.{failureFor, recordsFor, refused, tableAnswer};
 ghost use Rattle.esr.specs.Promises.{Decoded};
+ghost use Rattle.layouts.specs.Layouts.{layoutNumber, tableOf};
 ghost use Rattle.records.specs.Bits.{fieldOf};
 ghost use Rattle.records.specs.Sets.{recordsOf};
-ghost use Rattle.tables.specs.Tables.{tableOf};
 ghost use mathlib.Core.Path.{_≡_};
+use layouts::numbers;
 use records::Records;
-use records::Refusal;
 use records::Row;
 use records::kinds as k;
-use tables::numbers;
+use refusals::Reason;
+use refusals::Refusal;
 use texts::names as n;
 use texts::rules as r;
 
@@ -91,13 +92,41 @@ const CLASS: [u8; 64] = [
     EMPTY,
 ];
 
-const RES0: Row = Row(37, 27, n::RES0, n::RES0_LONG, r::PLAIN, k::CHECKED);
+const RES0: Row = Row {
+    start: 37,
+    width: 27,
+    name: n::RES0,
+    long: n::RES0_LONG,
+    rule: r::PLAIN,
+    kind: k::CHECKED,
+};
 
-const ISS2: Row = Row(32, 5, n::ISS2, n::NONE, r::PLAIN, k::FREE);
+const ISS2: Row = Row {
+    start: 32,
+    width: 5,
+    name: n::ISS2,
+    long: n::NONE,
+    rule: r::PLAIN,
+    kind: k::FREE,
+};
 
-const EC: Row = Row(26, 6, n::EC, n::EC_LONG, r::CLASS_NAME, k::EC);
+const EC: Row = Row {
+    start: 26,
+    width: 6,
+    name: n::EC,
+    long: n::EC_LONG,
+    rule: r::CLASS_NAME,
+    kind: k::EC,
+};
 
-const IL: Row = Row(25, 1, n::IL, n::IL_LONG, r::IL, k::FREE);
+const IL: Row = Row {
+    start: 25,
+    width: 1,
+    name: n::IL,
+    long: n::IL_LONG,
+    rule: r::IL,
+    kind: k::FREE,
+};
 
 fn layout_number(class: usize) -> u8
     requires { ⌜ class < 64 ⌝ }
@@ -126,13 +155,12 @@ fn first_failure(number: u8, iss: u64) -> Refusal
     while i < layout.checked as usize {
         let place = layout.checks[i] as usize;
         let row = layout.rows[place];
-        let refusal = row.check(iss);
-        if refusal.number() != 0 {
-            return refusal;
+        if !row.meets(iss) {
+            return row.refusal(iss);
         }
         i += 1;
     }
-    Refusal::None
+    Refusal::NONE
 }
 
 // The top records, then ISS's own from high bits to low, each written where it stays. The layout says how ISS's text is found.
@@ -140,7 +168,14 @@ fn all_records(esr: u64, number: u8, iss: u64) -> Records
     ensures { λ r. ⌜ r ≡ recordsOf (recordsFor (tableOf number) esr iss) ⌝ }
 {
     let layout = layouts::layout_of(number, iss);
-    let whole = Row(0, 25, n::ISS, n::ISS_LONG, layout.rule, k::FREE);
+    let whole = Row {
+        start: 0,
+        width: 25,
+        name: n::ISS,
+        long: n::ISS_LONG,
+        rule: layout.rule,
+        kind: k::FREE,
+    };
     let mut out = Records::empty();
     out.items[0] = RES0.get(esr);
     out.items[1] = ISS2.get(esr);
@@ -169,7 +204,7 @@ fn read(esr: u64, number: u8) -> Answer
         return refuse(refusal);
     }
     Answer {
-        refusal: Refusal::None,
+        refusal: Refusal::NONE,
         records: all_records(esr, number, iss),
     }
 }
@@ -177,14 +212,16 @@ fn read(esr: u64, number: u8) -> Answer
 pub fn decode(esr: u64) -> Answer
     ensures { λ r. ⌜ Decoded esr r ⌝ }
 {
-    let reserved = RES0.check(esr);
-    if reserved.number() != 0 {
-        return refuse(reserved);
+    if !RES0.meets(esr) {
+        return refuse(RES0.refusal(esr));
     }
     let class = records::field(esr, 26, 6);
     let number = layout_number(class as usize);
     if number == EMPTY {
-        return refuse(Refusal::InvalidEc(class));
+        return refuse(Refusal {
+            carries: class,
+            reason: Reason::InvalidEc,
+        });
     }
     read(esr, number)
 }

@@ -5,11 +5,13 @@ use mathlib.Core.List.{List, [], _∷_, map}
 use Prim.Native.Nat.{ℕ}
 use lib.Dec.{T, eqb}
 use borrow.Author.Tests.{eq-eqb, ne-eqb, eqb-true, eqb-false}
+use Rattle.promise.specs.Member.{member}
 use Rattle.records.specs.Bits.{fieldOf}
 use Rattle.records.specs.declared.Row.{Row}
-use Rattle.tables.specs.Shape.{Test, Table, isSet, isExternal, externals}
-use Rattle.tables.specs.Layouts.{member, passes, keep, rowsFor, checksFor, placesOf, laid, layoutFor}
-use Rattle.tables.specs.declared.Layout.{Layout}
+use Rattle.tables.specs.Shape.{Test, Table, bit, isExternal, externals}
+use Rattle.tables.specs.Applying.{passes, keep, rowsFor}
+use Rattle.layouts.specs.Layouts.{placesOf, laid, layoutFor}
+use Rattle.layouts.specs.declared.Layout.{Layout}
 use Rattle.tables.proofs.Laws.{given, knowsLines, keep-is}
 
 -- the answers of tests at a value
@@ -31,7 +33,7 @@ laidBy t rows = laid rows (placesOf rows (t .order)) (t .issRule)
 
 pub layout-at : (t : Table) (ts : List Test) → T (knowsLines ts (t .lines)) → (v : ℕ) (bs : List Bool) → Answers v ts bs
     → laidBy t (keep (given ts bs) (t .lines)) ≡ layoutFor t v
-unfolding layoutFor rowsFor checksFor
+unfolding layoutFor rowsFor
 layout-at t ts k v bs a =
     ap (λ (cs : List Bool). laidBy t (keep (given ts cs) (t .lines))) (sym (answers v ts bs a))
     ∙ ap (laidBy t) (keep-is (passes v) ts (t .lines) k)
@@ -48,7 +50,7 @@ module _ (v s w n : ℕ) where
   fails-one h = ap (λ (b : Bool). cond b true false) (ne-eqb (fieldOf v s w) n h)
 
 -- a bit, as as_bit gives it
-pub passes-bit : (v place : ℕ) (b t : Bool) → b ≡ eqb (fieldOf v place 1) 1 → b ≡ t → passes v (isSet place) ≡ t
+pub passes-bit : (v place : ℕ) (b t : Bool) → b ≡ eqb (fieldOf v place 1) 1 → b ≡ t → passes v (bit place) ≡ t
 passes-bit v place b true e h = passes-one v place 1 1 (eqb-true (fieldOf v place 1) 1 (sym e ∙ h))
 passes-bit v place b false e h = fails-one v place 1 1 (eqb-false (fieldOf v place 1) 1 (sym e ∙ h))
 

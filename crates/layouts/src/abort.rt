@@ -1,17 +1,12 @@
 // The layouts of instruction and data aborts. Their rows stand in the order of 01's table, each once, and a layout lists those that it has.
-ghost use Rattle.tables.specs.Layouts.{layoutFor, member};
+ghost use Rattle.layouts.specs.Layouts.{layoutFor};
+ghost use Rattle.promise.specs.Member.{member};
 ghost use Rattle.tables.specs.Shape.{externals};
 ghost use Rattle.tables.specs.Tables.{dataAbort, instructionAbort};
 ghost use mathlib.Core.Path.{_≡_};
-use crate::PAD;
-use records::Row;
-use records::kinds as k;
-use tables::Layout;
-use texts::names as n;
+use crate::Layout;
+use crate::rows;
 use texts::rules as r;
-
-// The one field of ISS that is named RES0 and not checked.
-const RES0_11: Row = Row(11, 2, n::RES0, n::RES0_LONG, r::PLAIN, k::UNCHECKED);
 
 // 01's external statuses: 0x10, 0x13 to 0x17. The Rust counts 0x12 too.
 fn is_external_abort_fsc(status: u64) -> bool
@@ -27,19 +22,19 @@ fn is_external_abort_fsc(status: u64) -> bool
 pub(crate) fn decode_iss_instruction_abort(iss: u64) -> Layout
     ensures { λ r. ⌜ r ≡ layoutFor instructionAbort iss ⌝ }
 {
-    let res0_15 = Row(15, 10, n::RES0, n::RES0_LONG, r::PLAIN, k::CHECKED);
-    let pfv = Row(14, 1, n::PFV, n::PFV_LONG, r::PFV, k::FREE);
-    let res0_14 = Row(14, 1, n::RES0, n::RES0_LONG, r::PLAIN, k::CHECKED);
-    let res0_13 = Row(13, 1, n::RES0, n::RES0_LONG, r::PLAIN, k::CHECKED);
-    let set = Row(11, 2, n::SET, n::SET_LONG, r::SET_TYPE, k::SET);
-    let res0_11 = RES0_11;
-    let fnv = Row(10, 1, n::FNV, n::FNV_LONG, r::FNV, k::FREE);
-    let ea = Row(9, 1, n::EA, n::EA_LONG, r::PLAIN, k::FREE);
-    let res0_8 = Row(8, 1, n::RES0, n::RES0_LONG, r::PLAIN, k::CHECKED);
-    let s1ptw = Row(7, 1, n::S1PTW, n::S1PTW_LONG, r::PLAIN, k::FREE);
-    let res0_6 = Row(6, 1, n::RES0, n::RES0_LONG, r::PLAIN, k::CHECKED);
-    let ifsc = Row(0, 6, n::IFSC, n::IFSC_LONG, r::FAULT_STATUS, k::FSC);
-    let pad = PAD;
+    let res0_15 = rows::RES0_15_25;
+    let pfv = rows::PFV;
+    let res0_14 = rows::RES0_14_15;
+    let res0_13 = rows::RES0_13_14;
+    let set = rows::SET;
+    let res0_11 = rows::RES0_11_13_UNCHECKED;
+    let fnv = rows::FNV;
+    let ea = rows::EA;
+    let res0_8 = rows::RES0_8_9;
+    let s1ptw = rows::S1PTW;
+    let res0_6 = rows::RES0_6_7;
+    let ifsc = rows::IFSC;
+    let pad = rows::PAD;
     let status = records::field(iss, 0, 6);
     if status == 0x10 {
         return Layout {
@@ -72,30 +67,30 @@ pub(crate) fn decode_iss_instruction_abort(iss: u64) -> Layout
 pub(crate) fn decode_iss_data_abort(iss: u64) -> Layout
     ensures { λ r. ⌜ r ≡ layoutFor dataAbort iss ⌝ }
 {
-    let isv = Row(24, 1, n::ISV, n::ISV_LONG, r::ISV, k::FREE);
-    let sas = Row(22, 2, n::SAS, n::SAS_LONG, r::SAS, k::UNREACHED);
-    let sse = Row(21, 1, n::SSE, n::SSE_LONG, r::PLAIN, k::FREE);
-    let srt = Row(16, 5, n::SRT, n::SRT_LONG, r::PLAIN, k::FREE);
-    let sf = Row(15, 1, n::SF, n::SF_LONG, r::SF, k::FREE);
-    let ar = Row(14, 1, n::AR, n::AR_LONG, r::AR, k::FREE);
-    let res0_21 = Row(21, 3, n::RES0, n::RES0_LONG, r::PLAIN, k::CHECKED);
-    let res0_18 = Row(18, 3, n::RES0, n::RES0_LONG, r::PLAIN, k::CHECKED);
-    let wu = Row(16, 2, n::WU, n::WU_LONG, r::WU, k::FREE);
-    let res0_16 = Row(16, 5, n::RES0, n::RES0_LONG, r::PLAIN, k::CHECKED);
-    let fnp = Row(15, 1, n::FNP, n::FNP_LONG, r::FNP, k::FREE);
-    let fnp_not_valid = Row(15, 1, n::FNP, n::FNP_LONG, r::FNP_NOT_VALID, k::FREE);
-    let pfv = Row(14, 1, n::PFV, n::PFV_LONG, r::PFV, k::FREE);
-    let res0_14 = Row(14, 1, n::RES0, n::RES0_LONG, r::PLAIN, k::CHECKED);
-    let vncr = Row(13, 1, n::VNCR, n::NONE, r::PLAIN, k::FREE);
-    let set = Row(11, 2, n::SET, n::SET_LONG, r::SET_TYPE, k::SET);
-    let res0_11 = RES0_11;
-    let fnv = Row(10, 1, n::FNV, n::FNV_LONG, r::FNV, k::FREE);
-    let ea = Row(9, 1, n::EA, n::EA_LONG, r::PLAIN, k::FREE);
-    let cm = Row(8, 1, n::CM, n::CM_LONG, r::PLAIN, k::FREE);
-    let s1ptw = Row(7, 1, n::S1PTW, n::S1PTW_LONG, r::PLAIN, k::FREE);
-    let wnr = Row(6, 1, n::WNR, n::WNR_LONG, r::WNR, k::FREE);
-    let dfsc = Row(0, 6, n::DFSC, n::DFSC_LONG, r::FAULT_STATUS, k::FSC);
-    let pad = PAD;
+    let isv = rows::ISV;
+    let sas = rows::SAS;
+    let sse = rows::SSE;
+    let srt = rows::SRT;
+    let sf = rows::SF;
+    let ar = rows::AR;
+    let res0_21 = rows::RES0_21_24;
+    let res0_18 = rows::RES0_18_21;
+    let wu = rows::WU;
+    let res0_16 = rows::RES0_16_21;
+    let fnp = rows::FNP;
+    let fnp_not_valid = rows::FNP_NOT_VALID;
+    let pfv = rows::PFV;
+    let res0_14 = rows::RES0_14_15;
+    let vncr = rows::VNCR;
+    let set = rows::SET;
+    let res0_11 = rows::RES0_11_13_UNCHECKED;
+    let fnv = rows::FNV;
+    let ea = rows::EA;
+    let cm = rows::CM;
+    let s1ptw = rows::S1PTW;
+    let wnr = rows::WNR;
+    let dfsc = rows::DFSC;
+    let pad = rows::PAD;
     let status = records::field(iss, 0, 6);
     if records::as_bit(iss, 24) {
         if status == 0x10 {

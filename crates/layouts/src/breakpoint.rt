@@ -1,23 +1,20 @@
 // The layouts of debug exceptions and of BKPT and BRK.
-ghost use Rattle.tables.specs.Layouts.{layoutFor};
+ghost use Rattle.layouts.specs.Layouts.{layoutFor};
 ghost use Rattle.tables.specs.Tables.{breakpoint, brk, softwareStep, watchpoint};
 ghost use mathlib.Core.Path.{_≡_};
-use crate::PAD;
-use records::Row;
-use records::kinds as k;
-use tables::Layout;
-use texts::names as n;
+use crate::Layout;
+use crate::rows;
 use texts::rules as r;
 
 // Classes 0x30, 0x31.
 pub(crate) fn decode_iss_breakpoint_vector_catch(iss: u64) -> Layout
     ensures { λ r. ⌜ r ≡ layoutFor breakpoint iss ⌝ }
 {
-    let pad = PAD;
+    let pad = rows::PAD;
     Layout {
         rows: [
-            Row(6, 19, n::RES0, n::RES0_LONG, r::PLAIN, k::CHECKED),
-            Row(0, 6, n::IFSC, n::IFSC_LONG, r::DEBUG_STATUS, k::FSC),
+            rows::RES0_6_25,
+            rows::IFSC_DEBUG,
             pad,
             pad,
             pad,
@@ -42,12 +39,12 @@ pub(crate) fn decode_iss_breakpoint_vector_catch(iss: u64) -> Layout
 pub(crate) fn decode_iss_software_step(iss: u64) -> Layout
     ensures { λ r. ⌜ r ≡ layoutFor softwareStep iss ⌝ }
 {
-    let isv = Row(24, 1, n::ISV, n::ISV_LONG, r::STEP_VALID, k::FREE);
-    let res0_7 = Row(7, 17, n::RES0, n::RES0_LONG, r::PLAIN, k::CHECKED);
-    let ex = Row(6, 1, n::EX, n::EX_LONG, r::EX, k::FREE);
-    let res0_6 = Row(6, 1, n::RES0, n::RES0_LONG_STEP, r::PLAIN, k::CHECKED);
-    let ifsc = Row(0, 6, n::IFSC, n::IFSC_LONG, r::DEBUG_STATUS, k::FSC);
-    let pad = PAD;
+    let isv = rows::ISV_STEP;
+    let res0_7 = rows::RES0_7_24;
+    let ex = rows::EX;
+    let res0_6 = rows::RES0_6_7_STEP;
+    let ifsc = rows::IFSC_DEBUG;
+    let pad = rows::PAD;
     if records::as_bit(iss, 24) {
         return Layout {
             rows: [
@@ -100,17 +97,17 @@ pub(crate) fn decode_iss_software_step(iss: u64) -> Layout
 pub(crate) fn decode_iss_watchpoint(iss: u64) -> Layout
     ensures { λ r. ⌜ r ≡ layoutFor watchpoint iss ⌝ }
 {
-    let pad = PAD;
+    let pad = rows::PAD;
     Layout {
         rows: [
-            Row(15, 10, n::RES0, n::RES0_LONG, r::PLAIN, k::CHECKED),
-            Row(14, 1, n::RES0, n::RES0_LONG, r::PLAIN, k::CHECKED),
-            Row(13, 1, n::VNCR, n::NONE, r::PLAIN, k::FREE),
-            Row(9, 4, n::RES0, n::RES0_LONG, r::PLAIN, k::CHECKED),
-            Row(8, 1, n::CM, n::CM_LONG, r::PLAIN, k::FREE),
-            Row(7, 1, n::RES0, n::RES0_LONG, r::PLAIN, k::CHECKED),
-            Row(6, 1, n::WNR, n::WNR_LONG, r::WATCH_WN_R, k::FREE),
-            Row(0, 6, n::DFSC, n::DFSC_LONG, r::DEBUG_STATUS, k::FSC),
+            rows::RES0_15_25,
+            rows::RES0_14_15,
+            rows::VNCR,
+            rows::RES0_9_13,
+            rows::CM,
+            rows::RES0_7_8,
+            rows::WNR_WATCH,
+            rows::DFSC_DEBUG,
             pad,
             pad,
             pad,
@@ -129,11 +126,11 @@ pub(crate) fn decode_iss_watchpoint(iss: u64) -> Layout
 pub(crate) fn decode_iss_breakpoint(iss: u64) -> Layout
     ensures { λ r. ⌜ r ≡ layoutFor brk iss ⌝ }
 {
-    let pad = PAD;
+    let pad = rows::PAD;
     Layout {
         rows: [
-            Row(16, 9, n::RES0, n::RES0_LONG, r::PLAIN, k::CHECKED),
-            Row(0, 16, n::COMMENT, n::COMMENT_LONG, r::PLAIN, k::FREE),
+            rows::RES0_16_25,
+            rows::COMMENT,
             pad,
             pad,
             pad,

@@ -1,23 +1,20 @@
 // The layout of SVC, HVC and SMC instructions.
-ghost use Rattle.tables.specs.Layouts.{layoutFor};
+ghost use Rattle.layouts.specs.Layouts.{layoutFor};
 ghost use Rattle.tables.specs.Tables.{hvc};
 ghost use mathlib.Core.Path.{_≡_};
-use crate::PAD;
-use records::Row;
-use records::kinds as k;
-use tables::Layout;
-use texts::names as n;
+use crate::Layout;
+use crate::rows;
 use texts::rules as r;
 
 // Classes 0x11, 0x15, 0x16, 0x17.
 pub(crate) fn decode_iss_hvc(iss: u64) -> Layout
     ensures { λ r. ⌜ r ≡ layoutFor hvc iss ⌝ }
 {
-    let pad = PAD;
+    let pad = rows::PAD;
     Layout {
         rows: [
-            Row(16, 9, n::RES0, n::RES0_LONG, r::PLAIN, k::CHECKED),
-            Row(0, 16, n::IMM16, n::IMM16_LONG, r::PLAIN, k::FREE),
+            rows::RES0_16_25,
+            rows::IMM16,
             pad,
             pad,
             pad,

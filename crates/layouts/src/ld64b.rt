@@ -1,22 +1,19 @@
 // The layout of trapped LD64B and ST64B* instructions.
-ghost use Rattle.tables.specs.Layouts.{layoutFor};
+ghost use Rattle.layouts.specs.Layouts.{layoutFor};
 ghost use Rattle.tables.specs.Tables.{ld64b};
 ghost use mathlib.Core.Path.{_≡_};
-use crate::PAD;
-use records::Row;
-use records::kinds as k;
-use tables::Layout;
-use texts::names as n;
+use crate::Layout;
+use crate::rows;
 use texts::rules as r;
 
 // Class 0x0A.
 pub(crate) fn decode_iss_ld64b(iss: u64) -> Layout
     ensures { λ r. ⌜ r ≡ layoutFor ld64b iss ⌝ }
 {
-    let pad = PAD;
+    let pad = rows::PAD;
     Layout {
         rows: [
-            Row(0, 25, n::ISS, n::NONE, r::LD64B_ISS, k::LD64B_ISS),
+            rows::ISS,
             pad,
             pad,
             pad,

@@ -1,13 +1,10 @@
 // The layouts of ISS: the rows of each and when they apply. A routine for each, in a file and under a name as the Rust has them.
 ghost use Rattle.layouts.specs.Promises.{LayoutOf};
-ghost use Rattle.tables.specs.Layouts.{layoutFor};
+ghost use Rattle.layouts.specs.Layouts.{layoutFor};
 ghost use Rattle.tables.specs.Tables.{res0};
 ghost use mathlib.Core.Path.{_≡_};
+use records::Records;
 use records::Row;
-use records::kinds as k;
-use tables::Layout;
-use tables::numbers;
-use texts::names as n;
 use texts::rules as r;
 
 mod abort;
@@ -19,23 +16,31 @@ mod ld64b;
 mod ldc;
 mod mcr;
 mod msr;
+pub mod numbers;
 mod pauth;
+mod rows;
 mod serror;
 mod sve;
 mod wf;
 
-// What stands in a place of a layout that has no row. A routine copies it from a local: a constant is built anew wherever it is named, and
-// the proof of the routine grows by each.
-const PAD: Row = Row(0, 0, n::NONE, n::NONE, r::PLAIN, k::FREE);
+// The rows of ISS from high bits to low; the places of those to check, in order; how many there are of each; the rule of ISS's own text.
+// 115 bytes with no gap, so that a layout is copied as one block.
+pub struct Layout {
+    pub rows: [Row; Records::ISS_MAX],
+    pub checks: [u8; Records::ISS_MAX],
+    pub count: u8,
+    pub checked: u8,
+    pub rule: u8,
+}
 
 // Classes 0x00, 0x0E, 0x19, 0x22, 0x26.
 fn decode_iss_res0(iss: u64) -> Layout
     ensures { λ r. ⌜ r ≡ layoutFor res0 iss ⌝ }
 {
-    let pad = PAD;
+    let pad = rows::PAD;
     Layout {
         rows: [
-            Row(0, 25, n::RES0, n::RES0_LONG, r::ISS_RES0, k::CHECKED),
+            rows::RES0_ISS,
             pad,
             pad,
             pad,

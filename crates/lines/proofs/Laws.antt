@@ -1,6 +1,6 @@
 -- One turn of the loop over a part of the input, its two ends, and that a part which has bytes goes on.
 use Prim.Native.Nat.{ℕ, _+_, _≤_, _<_}
-use mathlib.Core.Bool.{Bool, true, false, cond}
+use mathlib.Core.Bool.{true, false}
 use mathlib.Core.List.{List, [], _∷_}
 use mathlib.Core.Path.{_≡_, refl, sym, ap}
 use native.Mathlib.Nat.{not-suc-le-zero}
@@ -10,6 +10,7 @@ use lib.Dec.{eqb}
 use lib.ListN.{length, getD, drop, length-drop}
 use lib.Seq.{drop-cons}
 use borrow.Author.Tests.{eq-eqb, ne-eqb}
+use Rattle.number.proofs.Laws.{either}
 use Rattle.lines.specs.Lines.{takenOf, lineFeed, partOf}
 use Rattle.lines.specs.declared.LinePart.{LinePart}
 use Rattle.lines.specs.declared.LineState.{LineState}
@@ -33,11 +34,6 @@ module _ (st : LineState) (s : List ℕ) (at : ℕ) where
     part-more n =
         rw (drop-cons s at 0)
         (simp (ne-eqb _ _ n) (ap (λ (k : ℕ). partOf (takenOf st (getD s at 0)) (at + 1) (drop k s)) (sym (add-one at))))
-
--- what holds of both outcomes of a test holds of the one picked
-pub either : {A : Type 0} (P : A → Type 0) (t : Bool) {a b : A} → P a → P b → P (cond t a b)
-either P true p q = p
-either P false p q = q
 
 -- A part never ends before its place, and where it has a byte it ends behind it.
 

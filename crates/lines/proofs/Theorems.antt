@@ -6,15 +6,14 @@ use mathlib.Core.Bool.{Bool, true, false, cond, not, _&&_}
 use mathlib.Core.List.{List, [], _∷_, _++_}
 use mathlib.Core.Path.{_≡_, refl, sym, ap, _∙_}
 use native.Mathlib.Omega.{arith}
-use lib.Dec.{T, eqb}
+use lib.Dec.{T, eqb, ltb}
 use lib.ListN.{length}
-use borrow.Author.Tests.{eqb-true, eqb-false}
+use borrow.Author.Tests.{eqb-true, eqb-false, lt-ltb}
 use Rattle.lines.specs.Lines.{stageAfter, numberAfter, lineState, lineStart, takenOf, takesOf, hasCharacter, endOf, finishOf, lineFeed, partOf, oneLine}
 use Rattle.lines.specs.declared.LineState.{LineState}
 use Rattle.lines.specs.declared.Stage.{Stage}
 use Rattle.lines.specs.declared.Stage.the-variants.{Begin, Zero, Prefix, Sign, Digits}
-use Rattle.lines.proofs.Laws.{either}
-use Rattle.number.proofs.Laws.{number-some, number-plain, unsigned-bare, unsigned-plus}
+use Rattle.number.proofs.Laws.{either, number-some, number-plain, unsigned-bare, unsigned-plus}
 use Rattle.number.specs.Digits.{digitOf}
 use Rattle.number.specs.Numbers.{startOf, stepOf, stepsOf, startsWith, isHex, unsigned, numberFrom, numberIn, numberOf}
 use Rattle.number.specs.declared.NumberState.{NumberState}
@@ -108,19 +107,16 @@ opens Prefix b = either Open (eqb b (code "+")) refl refl
 opens Sign b = refl
 opens Digits b = refl
 
--- a line has a character just where it has one
 stays-open : (st : LineState) (s : List ℕ) → Open (st .stage) → Open (takesOf st s .stage)
 unfolding takesOf takenOf
 stays-open st [] h = h
 stays-open st (b ∷ s) h = stays-open (takenOf st b) s (opens (st .stage) b)
 
-pub open-line : (b : ℕ) (s : List ℕ) → hasCharacter (takesOf lineStart (b ∷ s) .stage) ≡ true
+-- a line is open just where it has a character
+pub open-line : (s : List ℕ) → hasCharacter (takesOf lineStart s .stage) ≡ ltb 0 (length s)
 unfolding takesOf takenOf
-open-line b s = stays-open (takenOf lineStart b) s (opens Begin b)
-
-pub empty-line : hasCharacter (takesOf lineStart [] .stage) ≡ false
-unfolding takesOf
-empty-line = refl
+open-line [] = refl
+open-line (b ∷ s) = stays-open (takenOf lineStart b) s (opens Begin b) ∙ sym (lt-ltb 0 (length (b ∷ s)) (omega arith))
 
 -- Parts of the input.
 
@@ -137,9 +133,3 @@ in-parts st at (b ∷ p) q t =
         → cond f (record { state = st; next = at + 1; ended = true }) (partOf (takenOf st b) (at + 1) (p ++ q))
         ≡ partOf (takesOf (takenOf st b) p) (at + length (b ∷ p)) q
     by-feed false u more = more u
-
--- a line feed ends the line, and the next begins behind it
-pub to-the-feed : (st : LineState) (at : ℕ) (p q : List ℕ) → T (oneLine p)
-    → partOf st at (p ++ (lineFeed ∷ q)) ≡ record { state = takesOf st p; next = at + length p + 1; ended = true }
-unfolding partOf
-to-the-feed st at p q t = in-parts st at p (lineFeed ∷ q) t

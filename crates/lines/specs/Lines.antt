@@ -11,8 +11,9 @@ use Rattle.lines.specs.declared.Stage.the-variants.{Begin, Zero, Prefix,
 use Rattle.number.specs.Numbers.{startOf, stepOf, numberFrom}
 use Rattle.number.specs.declared.Number.{Number}
 use Rattle.number.specs.declared.NumberState.{NumberState}
-use Rattle.records.specs.declared.Refusal.{Refusal}
-use Rattle.records.specs.declared.Refusal.the-variants.{Empty, InvalidDigit}
+use Rattle.refusals.specs.Refusals.{bare}
+use Rattle.refusals.specs.declared.Reason.{Reason}
+use Rattle.refusals.specs.declared.Reason.the-variants.{Empty, InvalidDigit}
 
 -- an exact "0x" selects base 16; then one "+" may stand
 unfoldable pub stageAfter : Stage → ℕ → Stage
@@ -54,8 +55,8 @@ hasCharacter Prefix = true
 hasCharacter Sign = true
 hasCharacter Digits = true
 
-abbrev pub refusedBy : Refusal → Number
-refusedBy refusal = record { value = 0; refusal = refusal }
+abbrev pub refusedBy : Reason → Number
+refusedBy reason = record { value = 0; refusal = bare reason }
 
 -- the number at the line's end: no character after any "0x" is 8, a lone "+" is 9
 abbrev pub endOf : Stage → NumberState → Number

@@ -5,7 +5,8 @@ ghost use Rattle.number.specs.Numbers.{numberFrom};
 ghost use mathlib.Core.Path.{_≡_};
 use number::Number;
 use number::NumberState;
-use records::Refusal;
+use refusals::Reason;
+use refusals::Refusal;
 
 // What the next character may be besides a digit.
 pub enum Stage {
@@ -75,10 +76,13 @@ fn number_after(stage: Stage, number: NumberState, b: u8) -> NumberState
     }
 }
 
-fn refused(refusal: Refusal) -> Number
-    ensures { λ r. ⌜ r ≡ refusedBy refusal ⌝ }
+fn refused(reason: Reason) -> Number
+    ensures { λ r. ⌜ r ≡ refusedBy reason ⌝ }
 {
-    Number { value: 0, refusal }
+    Number {
+        value: 0,
+        refusal: Refusal { carries: 0, reason },
+    }
 }
 
 fn number_of(state: NumberState) -> Number
@@ -130,10 +134,10 @@ impl LineState {
     {
         let stage = self.stage;
         match stage {
-            Stage::Begin => return refused(Refusal::Empty),
+            Stage::Begin => return refused(Reason::Empty),
             Stage::Zero => return number_of(self.number),
-            Stage::Prefix => return refused(Refusal::Empty),
-            Stage::Sign => return refused(Refusal::InvalidDigit),
+            Stage::Prefix => return refused(Reason::Empty),
+            Stage::Sign => return refused(Reason::InvalidDigit),
             Stage::Digits => return number_of(self.number),
         }
     }

@@ -8,7 +8,8 @@ use libc::STDOUT_FILENO;
 use lines::LineState;
 use number::Number;
 use records::Records;
-use records::Refusal;
+use refusals::Reason;
+use refusals::Refusal;
 use strings::Written;
 
 // Longer than any listing by more than MORE: a part of it that a call wants and it has not counts as wrong.
@@ -74,7 +75,7 @@ fn same_answer(a: Written, b: Written) -> bool {
     if left.number() != right.number() {
         return false;
     }
-    if left.carries() != right.carries() {
+    if left.carries != right.carries {
         return false;
     }
     a.bytes == b.bytes
@@ -89,7 +90,10 @@ fn is_right_in(bytes: &mut [u8], asked: Asked, whole: Written, text: &[u8], leng
     let written = ask(asked, &mut bytes[0..length]);
     if length < text.len() {
         let short = Written {
-            refusal: Refusal::ShortBuffer(text.len() as u64),
+            refusal: Refusal {
+                carries: text.len() as u64,
+                reason: Reason::ShortBuffer,
+            },
             bytes: 0,
         };
         if !same_answer(written, short) {
@@ -164,7 +168,7 @@ fn say_hex(name: &[u8], number: u64) {
 
 fn say_refusal(refusal: Refusal) {
     say_number(b"refused ", refusal.number() as u64);
-    say_hex(b" carried=0x", refusal.carries());
+    say_hex(b" carried=0x", refusal.carries);
 }
 
 // Says the text or the refusal, and tries the call in the buffers.
@@ -239,7 +243,7 @@ fn say_value(tally: Tally, esr: u64) -> Tally {
     let answer = esr::decode(esr);
     let refusal = answer.refusal;
     if refusal.number() != 0 {
-        next = say_message(next, refusal.number() as u64, refusal.carries());
+        next = say_message(next, refusal.number() as u64, refusal.carries);
     }
     next = say_lines(next, esr, answer.records.count);
     say_values(next, answer.records)

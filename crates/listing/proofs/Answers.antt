@@ -5,10 +5,10 @@ use native.Mathlib.Omega.{arith}
 use borrow.Author.Tests.{lt-ltb, le-ltb, eq-eqb, ne-eqb}
 use lib.ListN.{length, getD}
 use lib.Seq.{getD-take, length-take-le}
-use Rattle.records.specs.Refusals.{refusalNumber}
+use Rattle.refusals.specs.Refusals.{carrying, refusalNumber}
+use Rattle.refusals.specs.declared.Reason.the-variants.{BadIndex}
 use Rattle.records.specs.Sets.{setRoom, noRecord, recordAt, listOf}
 use Rattle.records.specs.declared.Record.{Record}
-use Rattle.records.specs.declared.Refusal.the-variants.{BadIndex}
 use Rattle.esr.specs.Decode.{answerOf}
 use Rattle.esr.specs.declared.Answer.{Answer}
 use Rattle.esr.proofs.Laws.{answer-room}
@@ -16,7 +16,7 @@ use Rattle.strings.specs.Outcomes.{refused, text}
 use Rattle.listing.specs.Asked.{lineIn, recordLine, listingWith, listingOf}
 use Rattle.listing.specs.Listings.{inPool, lineText, listingFrom}
 
-module _ (esr : ℕ) (a : Answer) (n : ℕ) (is : a ≡ answerOf esr) (by : n ≡ refusalNumber (a .refusal)) where
+module _ (esr : ℕ) {a : Answer} {n : ℕ} (is : a ≡ answerOf esr) (by : n ≡ refusalNumber (a .refusal)) where
   pub listing-no : (n ≡ 0 → ⊥) → listingOf esr ≡ refused (a .refusal)
   unfolding listingWith
   listing-no h = rw (← is, ne-eqb (refusalNumber (a .refusal)) 0 (λ e. h (by ∙ e)))
@@ -41,7 +41,7 @@ module _ (esr : ℕ) (a : Answer) (n : ℕ) (is : a ≡ answerOf esr) (by : n �
     counted : length (listOf (a .records)) ≡ a .records .count
     counted = length-take-le (a .records .count) (a .records .items) (omega (arith, room))
 
-    pub line-no : n ≡ 0 → (index : ℕ) → a .records .count ≤ index → recordLine esr index ≡ refused (BadIndex (a .records .count))
+    pub line-no : n ≡ 0 → (index : ℕ) → a .records .count ≤ index → recordLine esr index ≡ refused (carrying BadIndex (a .records .count))
     unfolding lineIn
     line-no h index past = line-in h index ∙ rw (counted, le-ltb index (a .records .count) past)
 

@@ -1,4 +1,5 @@
 pub mod Cases
 pub mod Lengths
+pub mod Longest
 pub mod Answers
 pub mod Decides

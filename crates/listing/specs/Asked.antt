@@ -5,16 +5,16 @@ use mathlib.Core.Bool.{cond}
 use mathlib.Core.List.{List}
 use lib.Dec.{ltb}
 use lib.ListN.{length, getD}
-use Rattle.records.specs.Refusals.{passed}
+use Rattle.refusals.specs.Refusals.{carrying, passed}
+use Rattle.refusals.specs.declared.Reason.the-variants.{BadIndex}
 use Rattle.records.specs.Sets.{noRecord, listOf}
 use Rattle.records.specs.declared.Record.{Record}
-use Rattle.records.specs.declared.Refusal.the-variants.{BadIndex}
 use Rattle.esr.specs.Decode.{answerOf}
 use Rattle.listing.specs.Listings.{Phrase, inPool, lineText, listingFrom}
 use Rattle.strings.specs.Outcomes.{Outcome, refused, text}
 
 unfoldable pub lineIn : List Record → ℕ → Outcome
-lineIn rs index = cond (ltb index (length rs)) (text (lineText (getD rs index noRecord))) (refused (BadIndex (length rs)))
+lineIn rs index = cond (ltb index (length rs)) (text (lineText (getD rs index noRecord))) (refused (carrying BadIndex (length rs)))
 
 unfoldable pub recordLine : ℕ → ℕ → Outcome
 recordLine esr index =

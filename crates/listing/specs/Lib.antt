@@ -1,3 +1,4 @@
 pub mod Listings
 pub mod Asked
+pub mod Longest
 pub mod Promises

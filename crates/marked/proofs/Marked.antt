@@ -1,8 +1,7 @@
 -- The marked cases hold: one test over the whole table, which antt computes, and one law that turns it into what each case says.
-use Prim.Native.Nat.{ℕ}
 use mathlib.Core.Bool.{Bool, true, false, _&&_, _||_}
 use mathlib.Core.List.{List, [], _∷_, List·Memᴰ, List·Memᴰ·head, List·Memᴰ·tail}
-use mathlib.Core.Path.{_≡_, refl, sym, ap, _∙_, subst}
+use mathlib.Core.Path.{_≡_, refl, sym, ap, ap₂, _∙_, subst}
 use lib.Dec.{T, eqb, eqb→eq}
 use lib.ListN.{length}
 use borrow.Author.Tests.{le-leb}
@@ -11,16 +10,17 @@ use Rattle.promise.proofs.Tests.{both-left, both-right}
 use Rattle.texts.specs.Names.{names}
 use Rattle.texts.specs.Pool.{textIn, onList, ruleAt, says, byValue, said, placesOf, texts, textAt, bytesAt, placeIn, code, firstOf, textCode, bytes}
 use Rattle.texts.specs.Rules.{rules}
+use Rattle.refusals.specs.Refusals.{refusalNumber, carrying, noRefusal}
+use Rattle.refusals.specs.declared.Refusal.{Refusal}
+use Rattle.refusals.proofs.Theorems.{one-reason}
 use Rattle.records.specs.Bits.{fieldOf}
-use Rattle.records.specs.Refusals.{refusalNumber, refusalCarries, refusalBy}
-use Rattle.records.specs.Rows.{recordOf, checkOf}
+use Rattle.records.specs.Kinds.{kindOf}
+use Rattle.records.specs.Rows.{recordOf, meets, refusalOf}
 use Rattle.records.specs.Sets.{recordsOf, listOf}
 use Rattle.records.specs.declared.Record.{Record}
-use Rattle.records.specs.declared.Refusal.the-variants.{None}
-use Rattle.records.proofs.Laws.{no-refusal}
-use Rattle.tables.specs.Layouts.{passes, rowsFor, checksFor}
-use Rattle.tables.specs.Tables.{topRows, layouts, tableOf, res0, wf, mcr, mcrr, ldc, sve, ld64b, bti, pauth, hvc, brk, fp, breakpoint, softwareStep, watchpoint, instructionAbort, dataAbort, serror, undivided}
-use Rattle.esr.specs.Decode.{layoutNumber, firstFailure, refused, accepted as acceptedAnswer, failureFor, recordsFor, tableAnswer, classAnswer, answerOf}
+use Rattle.tables.specs.Applying.{passes, rowsFor, checksFor}
+use Rattle.tables.specs.Tables.{topRows, layouts, res0, wf, mcr, mcrr, ldc, sve, ld64b, bti, pauth, hvc, brk, fp, breakpoint, softwareStep, watchpoint, instructionAbort, dataAbort, serror, undivided}
+use Rattle.esr.specs.Decode.{firstFailure, refused, accepted as acceptedAnswer, failureFor, recordsFor, tableAnswer, classAnswer, answerOf}
 use Rattle.esr.specs.declared.Answer.{Answer}
 use Rattle.listing.specs.Asked.{listingWith, listingOf}
 use Rattle.listing.specs.Listings.{inPool, indentAt, lineText, recordLines, listingFrom}
@@ -50,17 +50,19 @@ abbrev isEmpty : List Record → Bool
 isEmpty [] = true
 isEmpty (x ∷ xs) = false
 
+abbrev same : Refusal → Refusal → Bool
+same f g = eqb (refusalNumber f) (refusalNumber g) && eqb (f .carries) (g .carries)
+
 abbrev met : Expected → Answer → Bool
-met (refusal number carried) r =
-    eqb (refusalNumber (r .refusal)) number && (eqb (refusalCarries (r .refusal)) carried && isEmpty (listOf (r .records)))
-met (accepted facts) r = eqb (refusalNumber (r .refusal)) 0 && allShown facts (listOf (r .records))
+met (refusal f) r = same (r .refusal) f && isEmpty (listOf (r .records))
+met (accepted facts) r = same (r .refusal) noRefusal && allShown facts (listOf (r .records))
 
 abbrev allMet : List Case → Bool
 allMet [] = true
 allMet (c ∷ cs) = met (c .expected) (answerOf (c .esr)) && allMet cs
 
 computed : T (allMet cases)
-unfolding cases answerOf classAnswer tableAnswer failureFor recordsFor acceptedAnswer refused layoutNumber topRows firstFailure tableOf layouts res0 wf mcr mcrr ldc sve ld64b bti pauth hvc brk fp breakpoint softwareStep watchpoint instructionAbort dataAbort serror undivided passes rowsFor checksFor fieldOf recordOf checkOf refusalBy recordsOf textIn onList ruleAt says byValue said placesOf texts textAt placeIn code firstOf textCode names rules
+unfolding cases answerOf classAnswer tableAnswer failureFor recordsFor acceptedAnswer refused topRows firstFailure layouts res0 wf mcr mcrr ldc sve ld64b bti pauth hvc brk fp breakpoint softwareStep watchpoint instructionAbort dataAbort serror undivided passes rowsFor checksFor fieldOf recordOf meets refusalOf kindOf recordsOf textIn onList ruleAt says byValue said placesOf texts textAt placeIn code firstOf textCode names rules
 computed = tt
 
 -- What it shows.
@@ -94,17 +96,18 @@ all-so [] l t = tt
 all-so (f ∷ fs) l t =
     (shown-so f l (both-left (shownIn f l) (allShown fs l) t), all-so fs l (both-right (shownIn f l) (allShown fs l) t))
 
+same-is : (f g : Refusal) → T (same f g) → f ≡ g
+same-is f g t =
+    ap₂ carrying (one-reason (f .reason) (g .reason) (eqb→eq (refusalNumber f) (refusalNumber g) (both-left (eqb (refusalNumber f) (refusalNumber g)) _ t)))
+    (eqb→eq (f .carries) (g .carries) (both-right (eqb (refusalNumber f) (refusalNumber g)) _ t))
+
 met-so : (e : Expected) (r : Answer) → T (met e r) → Met e r
-met-so (refusal number carried) r t =
-    let n : ℕ = refusalNumber (r .refusal) in
-    let u : T (eqb (refusalCarries (r .refusal)) carried && isEmpty (listOf (r .records))) = both-right (eqb n number) _ t in (
-      eqb→eq n number (both-left (eqb n number) _ t),
-      eqb→eq (refusalCarries (r .refusal)) carried (both-left (eqb (refusalCarries (r .refusal)) carried) _ u),
-      none-empty (listOf (r .records)) (both-right (eqb (refusalCarries (r .refusal)) carried) _ u),
-    )
-met-so (accepted facts) r t =
-    let n : ℕ = refusalNumber (r .refusal) in
-    (no-refusal (r .refusal) (eqb→eq n 0 (both-left (eqb n 0) _ t)), all-so facts (listOf (r .records)) (both-right (eqb n 0) _ t))
+met-so (refusal f) r t =
+    (same-is (r .refusal) f (both-left (same (r .refusal) f) _ t), none-empty (listOf (r .records)) (both-right (same (r .refusal) f) _ t))
+met-so (accepted facts) r t = (
+  same-is (r .refusal) noRefusal (both-left (same (r .refusal) noRefusal) _ t),
+  all-so facts (listOf (r .records)) (both-right (same (r .refusal) noRefusal) _ t),
+)
 
 all-hold : (cs : List Case) → T (allMet cs) → AllHold cs
 all-hold [] t = tt
@@ -113,12 +116,12 @@ all-hold (c ∷ cs) t = (
   all-hold cs (both-right (met (c .expected) (answerOf (c .esr))) (allMet cs) t),
 )
 
-read : numberOf (bytes "0x+f") ≡ record { value = 15; refusal = None }
+read : numberOf (bytes "0x+f") ≡ record { value = 15; refusal = noRefusal }
 unfolding bytes numberOf numberIn stepsOf stepOf startsWith digitOf
 read = refl
 
 in-full : listingOf 0x56000001 ≡ inFull (ended listed)
-unfolding listed ended listingWith listingFrom recordLines inPool indentAt lineText fieldText valueText binaryText behindValue digitsOf digitChar bytesAt bytes answerOf classAnswer tableAnswer failureFor recordsFor acceptedAnswer refused layoutNumber topRows firstFailure tableOf layouts res0 wf mcr mcrr ldc sve ld64b bti pauth hvc brk fp breakpoint softwareStep watchpoint instructionAbort dataAbort serror undivided passes rowsFor checksFor fieldOf recordOf checkOf refusalBy recordsOf textIn onList ruleAt says byValue said placesOf texts textAt placeIn code firstOf textCode names rules
+unfolding listed ended listingWith listingFrom recordLines inPool indentAt lineText fieldText valueText binaryText behindValue digitsOf digitChar bytesAt bytes answerOf classAnswer tableAnswer failureFor recordsFor acceptedAnswer refused topRows firstFailure layouts res0 wf mcr mcrr ldc sve ld64b bti pauth hvc brk fp breakpoint softwareStep watchpoint instructionAbort dataAbort serror undivided passes rowsFor checksFor fieldOf recordOf meets refusalOf kindOf recordsOf textIn onList ruleAt says byValue said placesOf texts textAt placeIn code firstOf textCode names rules
 in-full = refl
 
 listing-holds : ListingHolds

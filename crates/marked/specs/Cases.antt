@@ -5,10 +5,11 @@ use mathlib.Core.List.{List, [], _∷_, _++_, List·Memᴰ}
 use mathlib.Core.Path.{_≡_}
 use lib.ListN.{length, drop}
 use Rattle.texts.specs.Pool.{bytes, textAt}
-use Rattle.records.specs.Refusals.{refusalNumber, refusalCarries}
+use Rattle.refusals.specs.Refusals.{carrying, noRefusal}
+use Rattle.refusals.specs.declared.Reason.the-variants.{InvalidRes0, InvalidEc, InvalidFsc, InvalidSet, InvalidAet, InvalidAm, InvalidLd64bIss}
+use Rattle.refusals.specs.declared.Refusal.{Refusal}
 use Rattle.records.specs.Sets.{listOf}
 use Rattle.records.specs.declared.Record.{Record}
-use Rattle.records.specs.declared.Refusal.the-variants.{None}
 use Rattle.esr.specs.Promises.{Decoded}
 use Rattle.esr.specs.declared.Answer.{Answer}
 use Rattle.listing.specs.Promises.{Listing}
@@ -21,9 +22,9 @@ pub data Fact : Type 0 where
   ofValue : String → ℕ → Fact
   withText : String → String → Fact
 
--- refused by this number, carrying this; or accepted, with these facts
+-- refused so; or accepted, with these facts
 pub data Expected : Type 0 where
-  refusal : ℕ → ℕ → Expected
+  refusal : Refusal → Expected
   accepted : List Fact → Expected
 
 pub record Case : Type 0 where
@@ -38,19 +39,19 @@ unfoldable pub cases : List Case
 cases =
     0x0 gives accepted [] ∷
     0x56000001 gives accepted [] ∷
-    0x2000000000 gives refusal 1 1 ∷
-    0xFC000000 gives refusal 2 0x3F ∷
-    0x20FC000000 gives refusal 1 1 ∷
-    0x54010000 gives refusal 1 1 ∷
-    0x90000810 gives refusal 4 1 ∷
+    0x2000000000 gives refusal (carrying InvalidRes0 1) ∷
+    0xFC000000 gives refusal (carrying InvalidEc 0x3F) ∷
+    0x20FC000000 gives refusal (carrying InvalidRes0 1) ∷
+    0x54010000 gives refusal (carrying InvalidRes0 1) ∷
+    0x90000810 gives refusal (carrying InvalidSet 1) ∷
     0x90000804 gives accepted (ofValue "RES0" 1 ∷ []) ∷
     0x90010010 gives accepted (withText "WU" "Reserved" ∷ []) ∷
-    0xBC001000 gives refusal 5 4 ∷
-    0xBC001002 gives refusal 3 2 ∷
+    0xBC001000 gives refusal (carrying InvalidAet 4) ∷
+    0xBC001002 gives refusal (carrying InvalidFsc 2) ∷
     0xBDFFFFFF gives accepted [] ∷
-    0xBC000051 gives refusal 1 1 ∷
-    0x1800000A gives refusal 6 5 ∷
-    0x28000003 gives refusal 7 3 ∷
+    0xBC000051 gives refusal (carrying InvalidRes0 1) ∷
+    0x1800000A gives refusal (carrying InvalidAm 5) ∷
+    0x28000003 gives refusal (carrying InvalidLd64bIss 3) ∷
     []
 
 -- what a fact says of a record
@@ -69,8 +70,8 @@ AllShown [] l = Unit {0}
 AllShown (f ∷ fs) l = Shown f l × AllShown fs l
 
 abbrev pub Met : Expected → Answer → Type 0
-Met (refusal number carried) r = (refusalNumber (r .refusal) ≡ number) × (refusalCarries (r .refusal) ≡ carried) × (listOf (r .records) ≡ [])
-Met (accepted facts) r = (r .refusal ≡ None) × AllShown facts (listOf (r .records))
+Met (refusal f) r = (r .refusal ≡ f) × (listOf (r .records) ≡ [])
+Met (accepted facts) r = (r .refusal ≡ noRefusal) × AllShown facts (listOf (r .records))
 
 -- every answer that decode's promise allows is as the case says
 abbrev pub Holds : Case → Type 0
@@ -82,7 +83,7 @@ AllHold (c ∷ cs) = Holds c × AllHold cs
 
 -- "0x+f": 15, of every answer that parse_number's promise allows
 abbrev pub NumberHolds : Type 0
-NumberHolds = (r : Number) → Parsed (bytes "0x+f") r → (r .refusal ≡ None) × (r .value ≡ 15)
+NumberHolds = (r : Number) → Parsed (bytes "0x+f") r → (r .refusal ≡ noRefusal) × (r .value ≡ 15)
 
 -- "Value 0x56000001 in full": its listing, line by line, each ended by one line feed
 unfoldable pub listed : List String
@@ -108,4 +109,4 @@ ListingHolds =
     (before after : List ℕ) (r : Written)
     → length (ended listed) ≤ length before
     → Listing (0x56000001, before) (r, after)
-    → (r ≡ record { refusal = None; bytes = length (ended listed) }) × (after ≡ ended listed ++ drop (length (ended listed)) before)
+    → (r ≡ record { refusal = noRefusal; bytes = length (ended listed) }) × (after ≡ ended listed ++ drop (length (ended listed)) before)

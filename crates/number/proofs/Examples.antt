@@ -9,7 +9,7 @@ use lib.Dec.{T, eqb}
 use Rattle.number.specs.Digits.{digitOf}
 use Rattle.number.specs.Numbers.{stepOf, stepsOf, startsWith, numberIn, numberOf}
 use Rattle.promise.proofs.Tests.{every}
-use Rattle.records.specs.Refusals.{refusalNumber}
+use Rattle.refusals.specs.Refusals.{refusalNumber}
 
 unfoldable bytes : String → List ℕ
 bytes S.[] = []

@@ -12,15 +12,18 @@ use lib.Bits.{bitAnd}
 use lib.Dec.{T, eqb, leb, ltb, eqb→eq, leb→le}
 use lib.ListN.{length, getD, take, drop, length-drop}
 use lib.Seq.{drop-cons, drop-length, take-all}
-use borrow.Author.Tests.{eqb-true, ltb-true, ltb-false, leb-false, lt-ltb, le-ltb, le-leb, lt-leb, eq-eqb, ne-eqb}
+use borrow.Author.Tests.{ltb-true, ltb-false, leb-false, lt-ltb, le-ltb, le-leb, lt-leb, eq-eqb, ne-eqb}
 use Rattle.number.specs.Digits.{baseOf, digitOf, noDigit}
 use Rattle.number.specs.Numbers.{stateOf, startOf, refused, grown, stepOf, stepsOf, startsWith, isHex, unsigned, numberFrom, numberIn, numberOf}
 use Rattle.number.specs.declared.NumberState.{NumberState}
 use Rattle.promise.proofs.Tests.{from, from-at}
-use Rattle.records.proofs.Laws.{no-refusal}
-use Rattle.records.specs.Refusals.{refusalNumber}
-use Rattle.records.specs.declared.Refusal.{Refusal}
-use Rattle.records.specs.declared.Refusal.the-variants.{None, InvalidDigit, PosOverflow}
+use Rattle.refusals.specs.Refusals.{bare, noRefusal}
+use Rattle.refusals.specs.declared.Reason.the-variants.{InvalidDigit, PosOverflow}
+
+-- what holds of both outcomes of a test holds of the one picked
+pub either : {A : Type 0} (P : A → Type 0) (t : Bool) {a b : A} → P a → P b → P (cond t a b)
+either P true p q = p
+either P false p q = q
 
 -- Digits: a character is counted from "0", and in base 16 past "9" from "A" without bit 5; what the count tells is computed for every byte.
 
@@ -111,61 +114,53 @@ pub step-refused : (st : NumberState) (b : ℕ) → refused (st .refusal) ≡ tr
 unfolding stepOf
 step-refused st b h = simp h
 
--- no refusal, as a number
-unrefused : (r : Refusal) → refused r ≡ false → refusalNumber r ≡ 0
-unrefused r h = by-test (eqb (refusalNumber r) 0) refl
-  where
-    by-test : (t : Bool) → eqb (refusalNumber r) 0 ≡ t → refusalNumber r ≡ 0
-    by-test true e = eqb-true _ _ e
-    by-test false e = absurd (false≢true (sym h ∙ simp e))
-
 -- the digit is told by a count
 module _ (st : NumberState) (b d k : ℕ) (hd : Told (baseOf (st .hex)) b d) (hk : k ≡ baseOf (st .hex)) (free : refused (st .refusal) ≡ false) where
   digit : d < k → d ≡ digitOf b
   digit h = hd .0 (omega arith)
 
-  pub step-no-digit : k ≤ d → stepOf st b ≡ stateOf (st .hex) 0 InvalidDigit
+  pub step-no-digit : k ≤ d → stepOf st b ≡ stateOf (st .hex) 0 (bare InvalidDigit)
   unfolding stepOf
   step-no-digit h = rw (← hk) (simp (free, le-leb k (digitOf b) (omega (arith, hd .1 (omega arith)))))
 
-  pub step-over : d < k → 2 ^ 64 - 1 < st .value * k + d → stepOf st b ≡ stateOf (st .hex) 0 PosOverflow
+  pub step-over : d < k → 2 ^ 64 - 1 < st .value * k + d → stepOf st b ≡ stateOf (st .hex) 0 (bare PosOverflow)
   unfolding stepOf
   step-over h o = rw (← digit h, ← hk) (simp (free, lt-leb _ _ h, lt-ltb _ _ o))
 
   pub step-grown : d < k → st .value * k + d ≤ 2 ^ 64 - 1 → stepOf st b ≡ stateOf (st .hex) (st .value * k + d) (st .refusal)
   unfolding stepOf
-  step-grown h o = rw (← digit h, ← hk, no-refusal (st .refusal) (unrefused (st .refusal) free)) (simp (lt-leb _ _ h, le-ltb _ _ o))
+  step-grown h o = rw (← digit h, ← hk) (simp (free, lt-leb _ _ h, le-ltb _ _ o))
 
 -- a step that is accepted
 pub step-on : (hex : Bool) (v b : ℕ) → digitOf b < baseOf hex → v * baseOf hex + digitOf b < 2 ^ 64
-    → stepOf (stateOf hex v None) b ≡ stateOf hex (v * baseOf hex + digitOf b) None
-step-on hex v b d f = step-grown (stateOf hex v None) b (digitOf b) (baseOf hex) (λ h. refl, λ h. h) refl refl d (omega arith)
+    → stepOf (stateOf hex v noRefusal) b ≡ stateOf hex (v * baseOf hex + digitOf b) noRefusal
+step-on hex v b d f = step-grown (stateOf hex v noRefusal) b (digitOf b) (baseOf hex) (λ h. refl, λ h. h) refl refl d (omega arith)
 
 -- what holds of a state by each case of a step holds after it
 module _ (st : NumberState) (b : ℕ) (P : NumberState → Type 0) where
   pub step-by : (refused (st .refusal) ≡ true → P st)
-      → P (stateOf (st .hex) 0 InvalidDigit)
-      → P (stateOf (st .hex) 0 PosOverflow)
-      → (digitOf b < baseOf (st .hex) → grown st b < 2 ^ 64 → P (stateOf (st .hex) (grown st b) None))
+      → P (stateOf (st .hex) 0 (bare InvalidDigit))
+      → P (stateOf (st .hex) 0 (bare PosOverflow))
+      → (digitOf b < baseOf (st .hex) → grown st b < 2 ^ 64 → P (stateOf (st .hex) (grown st b) (st .refusal)))
       → P (stepOf st b)
   unfolding stepOf
   step-by stays bad over next = by-refused (refused (st .refusal)) refl
     where
       by-value : (t : Bool) → ltb (2 ^ 64 - 1) (grown st b) ≡ t → digitOf b < baseOf (st .hex)
-          → P (cond t (stateOf (st .hex) 0 PosOverflow) (stateOf (st .hex) (grown st b) None))
+          → P (cond t (stateOf (st .hex) 0 (bare PosOverflow)) (stateOf (st .hex) (grown st b) (st .refusal)))
       by-value true e d = over
       by-value false e d = next d (omega (arith, ltb-false (2 ^ 64 - 1) (grown st b) e))
 
       by-digit : (t : Bool) → leb (baseOf (st .hex)) (digitOf b) ≡ t
-          → P (cond t (stateOf (st .hex) 0 InvalidDigit)
-          (cond (ltb (2 ^ 64 - 1) (grown st b)) (stateOf (st .hex) 0 PosOverflow) (stateOf (st .hex) (grown st b) None)))
+          → P (cond t (stateOf (st .hex) 0 (bare InvalidDigit))
+          (cond (ltb (2 ^ 64 - 1) (grown st b)) (stateOf (st .hex) 0 (bare PosOverflow)) (stateOf (st .hex) (grown st b) (st .refusal))))
       by-digit true e = bad
       by-digit false e = by-value (ltb (2 ^ 64 - 1) (grown st b)) refl (leb-false (baseOf (st .hex)) (digitOf b) e)
 
       by-refused : (t : Bool) → refused (st .refusal) ≡ t
           → P (cond t st
-          (cond (leb (baseOf (st .hex)) (digitOf b)) (stateOf (st .hex) 0 InvalidDigit)
-          (cond (ltb (2 ^ 64 - 1) (grown st b)) (stateOf (st .hex) 0 PosOverflow) (stateOf (st .hex) (grown st b) None))))
+          (cond (leb (baseOf (st .hex)) (digitOf b)) (stateOf (st .hex) 0 (bare InvalidDigit))
+          (cond (ltb (2 ^ 64 - 1) (grown st b)) (stateOf (st .hex) 0 (bare PosOverflow)) (stateOf (st .hex) (grown st b) (st .refusal)))))
       by-refused true e = stays e
       by-refused false e = by-digit (leb (baseOf (st .hex)) (digitOf b)) refl
 

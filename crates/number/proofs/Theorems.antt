@@ -11,15 +11,15 @@ use native.Mathlib.Omega.{arith}
 use lib.ListN.{length, replicate, length-append}
 use lib.Dec.{T, eqb, ltb, lt→ltb, ltb→lt}
 use borrow.Author.Tests.{eqb-false, ne-eqb}
-use Rattle.number.proofs.Laws.{base-pos, digit-none, step-by, step-on, steps-refused, unsigned-bare, unsigned-plus, number-some, number-plain}
+use Rattle.number.proofs.Laws.{base-pos, either, digit-none, step-by, step-on, steps-refused, unsigned-bare, unsigned-plus, number-some, number-plain}
 use Rattle.promise.proofs.Tests.{both-left, both-right, both-intro}
 use Rattle.number.specs.Digits.{baseOf, digitOf, noDigit}
 use Rattle.number.specs.Numbers.{stateOf, startOf, refused, stepOf, stepsOf, startsWith, isHex, unprefixed, unsigned, digitsIn, numberFrom, numberIn, numberOf}
 use Rattle.number.specs.Places.{areDigits, placeValue, StandsFor, prefixOf}
 use Rattle.number.specs.declared.Number.{Number}
 use Rattle.number.specs.declared.NumberState.{NumberState}
-use Rattle.records.specs.declared.Refusal.{Refusal}
-use Rattle.records.specs.declared.Refusal.the-variants.{None, Empty, InvalidDigit, PosOverflow}
+use Rattle.refusals.specs.Refusals.{bare, noRefusal}
+use Rattle.refusals.specs.declared.Reason.the-variants.{Empty, InvalidDigit, PosOverflow}
 
 -- bytes above 0x7F are not digits, in either base
 pub no-digit-above : (b : ℕ) → 0x7F < b → digitOf b ≡ noDigit
@@ -33,52 +33,40 @@ unfolding stepsOf
 steps-append st [] t = refl
 steps-append st (b ∷ s) t = steps-append (stepOf st b) s t
 
-never-accepted : (st : NumberState) (s : List ℕ) → refused (st .refusal) ≡ true → stepsOf st s .refusal ≡ None → ⊥
+never-accepted : (st : NumberState) (s : List ℕ) → refused (st .refusal) ≡ true → stepsOf st s .refusal ≡ noRefusal → ⊥
 never-accepted st s h e =
     false≢true (sym (ap refused e) ∙ ap (λ (r : NumberState). refused (r .refusal)) (steps-refused st s h) ∙ h)
 
 pub first-offender : (st : NumberState) (s t : List ℕ) → refused (stepsOf st s .refusal) ≡ true → stepsOf st (s ++ t) ≡ stepsOf st s
 first-offender st s t h = steps-append st s t ∙ steps-refused (stepsOf st s) t h
 
--- a value has 64 bits, and is 0 where the state is refused
-abbrev Kept : ℕ → Refusal → Type 0
-Kept value refusal = (value < 2 ^ 64) × ((refusal ≡ None) ⊎ (value ≡ 0))
+-- a value has 64 bits; nothing is refused, or a refusal has a number and the value is 0
+abbrev Kept : Number → Type 0
+Kept n = (n .value < 2 ^ 64) × ((n .refusal ≡ noRefusal) ⊎ ((refused (n .refusal) ≡ true) × (n .value ≡ 0)))
 
-steps-kept : (st : NumberState) (s : List ℕ) → Kept (st .value) (st .refusal) → Kept (stepsOf st s .value) (stepsOf st s .refusal)
+steps-kept : (hex : Bool) (v : ℕ) (s : List ℕ) → v < 2 ^ 64 → Kept (numberFrom (stepsOf (stateOf hex v noRefusal) s))
 unfolding stepsOf
-steps-kept st [] k = k
-steps-kept st (b ∷ s) k =
-    steps-kept (stepOf st b) s
-    (step-by st b (λ (r : NumberState). Kept (r .value) (r .refusal))
-    (λ e. k) (omega arith, inr refl) (omega arith, inr refl) (λ d f. (f, inl refl)))
+steps-kept hex v [] h = (h, inl refl)
+steps-kept hex v (b ∷ s) h =
+    step-by (stateOf hex v noRefusal) b (λ (st : NumberState). Kept (numberFrom (stepsOf st s)))
+    (λ e. absurd (false≢true e))
+    (rw (steps-refused (stateOf hex 0 (bare InvalidDigit)) s refl) (omega arith, inr (refl, refl)))
+    (rw (steps-refused (stateOf hex 0 (bare PosOverflow)) s refl) (omega arith, inr (refl, refl)))
+    (λ d f. steps-kept hex (v * baseOf hex + digitOf b) s f)
 
-number-kept : (hex : Bool) (s : List ℕ) → Kept (numberIn hex s .value) (numberIn hex s .refusal)
+number-kept : (hex : Bool) (s : List ℕ) → Kept (numberIn hex s)
 unfolding numberIn
-number-kept hex s = by-test (eqb (length s) 0)
-  where
-    end : NumberState
-    end = stepsOf (startOf hex) (unsigned s)
-
-    none : Number
-    none = record { value = 0; refusal = Empty }
-
-    by-test : (t : Bool) → Kept (cond t none (numberFrom end) .value) (cond t none (numberFrom end) .refusal)
-    by-test true = (omega arith, inr refl)
-    by-test false = steps-kept (startOf hex) (unsigned s) (omega arith, inl refl)
+number-kept hex s = either Kept (eqb (length s) 0) (omega arith, inr (refl, refl)) (steps-kept hex 0 (unsigned s) (omega arith))
 
 -- a result is below 2^64, refused or not
 pub below : (s : List ℕ) → numberOf s .value < 2 ^ 64
 unfolding numberOf
 below s = number-kept (isHex s) (unprefixed s) .0
 
--- a refused text has the value 0
-pub refused-zero : (s : List ℕ) → (numberOf s .refusal ≡ None → ⊥) → numberOf s .value ≡ 0
+-- a text is accepted, or it is refused with a number and has the value 0
+pub refused-zero : (s : List ℕ) → (numberOf s .refusal ≡ noRefusal) ⊎ ((refused (numberOf s .refusal) ≡ true) × (numberOf s .value ≡ 0))
 unfolding numberOf
-refused-zero s h = by-case (number-kept (isHex s) (unprefixed s) .1)
-  where
-    by-case : (numberOf s .refusal ≡ None) ⊎ (numberOf s .value ≡ 0) → numberOf s .value ≡ 0
-    by-case (inl e) = absurd (h e)
-    by-case (inr z) = z
+refused-zero s = number-kept (isHex s) (unprefixed s) .1
 
 -- Place value.
 
@@ -98,16 +86,16 @@ abbrev Worth : ℕ → ℕ → List ℕ → NumberState → Type 0
 Worth k v s end = T (areDigits k s) × (end .value ≡ v * k ^ length s + placeValue k s)
 
 steps-worth : (hex : Bool) (v : ℕ) (s : List ℕ)
-    → stepsOf (stateOf hex v None) s .refusal ≡ None
-    → Worth (baseOf hex) v s (stepsOf (stateOf hex v None) s)
+    → stepsOf (stateOf hex v noRefusal) s .refusal ≡ noRefusal
+    → Worth (baseOf hex) v s (stepsOf (stateOf hex v noRefusal) s)
 unfolding stepsOf areDigits placeValue
 steps-worth hex v [] e = (tt, no-places (baseOf hex) v)
 steps-worth hex v (b ∷ s) e =
-    step-by (stateOf hex v None) b
-    (λ (st : NumberState). stepsOf st s .refusal ≡ None → Worth (baseOf hex) v (b ∷ s) (stepsOf st s))
+    step-by (stateOf hex v noRefusal) b
+    (λ (st : NumberState). stepsOf st s .refusal ≡ noRefusal → Worth (baseOf hex) v (b ∷ s) (stepsOf st s))
     (λ h. absurd (false≢true h))
-    (λ h. absurd (never-accepted (stateOf hex 0 InvalidDigit) s refl h))
-    (λ h. absurd (never-accepted (stateOf hex 0 PosOverflow) s refl h))
+    (λ h. absurd (never-accepted (stateOf hex 0 (bare InvalidDigit)) s refl h))
+    (λ h. absurd (never-accepted (stateOf hex 0 (bare PosOverflow)) s refl h))
     (λ d f h. let w = steps-worth hex (v * baseOf hex + digitOf b) s h in (
       both-intro (ltb (digitOf b) (baseOf hex)) (areDigits (baseOf hex) s) (lt→ltb (digitOf b) (baseOf hex) d) (w .0),
       w .1 ∙ place-more (baseOf hex) v b s,
@@ -118,9 +106,9 @@ steps-worth hex v (b ∷ s) e =
 steps-accepted : (hex : Bool) (v : ℕ) (s : List ℕ)
     → T (areDigits (baseOf hex) s)
     → v * baseOf hex ^ length s + placeValue (baseOf hex) s < 2 ^ 64
-    → stepsOf (stateOf hex v None) s ≡ stateOf hex (v * baseOf hex ^ length s + placeValue (baseOf hex) s) None
+    → stepsOf (stateOf hex v noRefusal) s ≡ stateOf hex (v * baseOf hex ^ length s + placeValue (baseOf hex) s) noRefusal
 unfolding stepsOf areDigits placeValue
-steps-accepted hex v [] t l = ap (λ (n : ℕ). stateOf hex n None) (no-places (baseOf hex) v)
+steps-accepted hex v [] t l = ap (λ (n : ℕ). stateOf hex n noRefusal) (no-places (baseOf hex) v)
 steps-accepted hex v (b ∷ s) t l =
     let k : ℕ = baseOf hex in
     let d : T (ltb (digitOf b) k) = both-left (ltb (digitOf b) k) (areDigits k s) t in
@@ -129,26 +117,26 @@ steps-accepted hex v (b ∷ s) t l =
     let up : v * k + digitOf b ≤ (v * k + digitOf b) * k ^ length s = le-mul-of-pos-right (v * k + digitOf b) one in
     ap (λ (st : NumberState). stepsOf st s) (step-on hex v b (ltb→lt (digitOf b) k d) (omega arith))
     ∙ steps-accepted hex (v * k + digitOf b) s (both-right (ltb (digitOf b) k) (areDigits k s) t) (omega arith)
-    ∙ ap (λ (n : ℕ). stateOf hex n None) e
+    ∙ ap (λ (n : ℕ). stateOf hex n noRefusal) e
 
 -- Acceptance.
 
 -- past its sign a text in a base is accepted just where it stands for its value
 module _ (hex : Bool) (s : List ℕ) where
-  accepted-in : 1 ≤ length s → numberIn hex s .refusal ≡ None → Worth (baseOf hex) 0 (unsigned s) (stepsOf (startOf hex) (unsigned s))
+  accepted-in : 1 ≤ length s → numberIn hex s .refusal ≡ noRefusal → Worth (baseOf hex) 0 (unsigned s) (stepsOf (startOf hex) (unsigned s))
   accepted-in some e = steps-worth hex 0 (unsigned s) (rw (number-some s hex some) at e)
 
-  some-in : numberIn hex s .refusal ≡ None → 1 ≤ length s
+  some-in : numberIn hex s .refusal ≡ noRefusal → 1 ≤ length s
   unfolding numberIn
   some-in = by-test (eqb (length s) 0) refl
     where
       by-test : (t : Bool) → eqb (length s) 0 ≡ t
-          → cond t (record { value = 0; refusal = Empty }) (numberFrom (stepsOf (startOf hex) (unsigned s))) .refusal ≡ None → 1 ≤ length s
+          → cond t (record { value = 0; refusal = bare Empty }) (numberFrom (stepsOf (startOf hex) (unsigned s))) .refusal ≡ noRefusal → 1 ≤ length s
       by-test true h e = absurd (false≢true (sym (ap refused e)))
       by-test false h e = omega (arith, eqb-false (length s) 0 h)
 
 -- an accepted text stands for its value: the value is the positional value of its digits
-pub accepted : (s : List ℕ) → numberOf s .refusal ≡ None → StandsFor s (numberOf s .value)
+pub accepted : (s : List ℕ) → numberOf s .refusal ≡ noRefusal → StandsFor s (numberOf s .value)
 unfolding numberOf
 accepted s e =
     let hex : Bool = isHex s in
@@ -162,12 +150,12 @@ accepted s e =
     }
 
 -- and a text that stands for a value is accepted with it
-pub accepts : (s : List ℕ) (v : ℕ) → StandsFor s v → numberOf s ≡ record { value = v; refusal = None }
+pub accepts : (s : List ℕ) (v : ℕ) → StandsFor s v → numberOf s ≡ record { value = v; refusal = noRefusal }
 unfolding numberOf
 accepts s v w =
     number-some (unprefixed s) (isHex s) (w .some)
     ∙ ap numberFrom (steps-accepted (isHex s) 0 (digitsIn s) (w .digits) (omega (arith, w .small, w .worth)))
-    ∙ ap (λ (n : ℕ). record { value = n; refusal = None }) (omega (arith, w .worth))
+    ∙ ap (λ (n : ℕ). record { value = n; refusal = noRefusal }) (omega (arith, w .worth))
 
 -- What may stand in front.
 

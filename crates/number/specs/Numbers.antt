@@ -8,9 +8,9 @@ use lib.ListN.{length, drop}
 use Rattle.number.specs.Digits.{baseOf, digitOf}
 use Rattle.number.specs.declared.Number.{Number}
 use Rattle.number.specs.declared.NumberState.{NumberState}
-use Rattle.records.specs.Refusals.{passed}
-use Rattle.records.specs.declared.Refusal.{Refusal}
-use Rattle.records.specs.declared.Refusal.the-variants.{None, Empty, InvalidDigit, PosOverflow}
+use Rattle.refusals.specs.Refusals.{bare, noRefusal, passed}
+use Rattle.refusals.specs.declared.Reason.the-variants.{Empty, InvalidDigit, PosOverflow}
+use Rattle.refusals.specs.declared.Refusal.{Refusal}
 
 -- The reading state, and the fold.
 
@@ -19,7 +19,7 @@ stateOf hex value refusal = record { value = value; hex = hex; refusal = refusal
 
 -- before the first character
 abbrev pub startOf : Bool → NumberState
-startOf hex = stateOf hex 0 None
+startOf hex = stateOf hex 0 noRefusal
 
 abbrev pub refused : Refusal → Bool
 refused refusal = not (passed refusal)
@@ -32,9 +32,9 @@ grown st b = st .value * baseOf (st .hex) + digitOf b
 unfoldable pub stepOf : NumberState → ℕ → NumberState
 stepOf st b =
     cond (refused (st .refusal)) st
-    (cond (leb (baseOf (st .hex)) (digitOf b)) (stateOf (st .hex) 0 InvalidDigit)
-    (cond (ltb (2 ^ 64 - 1) (grown st b)) (stateOf (st .hex) 0 PosOverflow)
-    (stateOf (st .hex) (grown st b) None)))
+    (cond (leb (baseOf (st .hex)) (digitOf b)) (stateOf (st .hex) 0 (bare InvalidDigit))
+    (cond (ltb (2 ^ 64 - 1) (grown st b)) (stateOf (st .hex) 0 (bare PosOverflow))
+    (stateOf (st .hex) (grown st b) (st .refusal))))
 
 -- characters go left to right, and the state after each is handed on to the next
 unfoldable pub stepsOf : NumberState → List ℕ → NumberState
@@ -71,7 +71,7 @@ numberFrom st = record { value = st .value; refusal = st .refusal }
 
 -- a number in a base: without characters it is 8
 unfoldable pub numberIn : Bool → List ℕ → Number
-numberIn hex s = cond (eqb (length s) 0) (record { value = 0; refusal = Empty }) (numberFrom (stepsOf (startOf hex) (unsigned s)))
+numberIn hex s = cond (eqb (length s) 0) (record { value = 0; refusal = bare Empty }) (numberFrom (stepsOf (startOf hex) (unsigned s)))
 
 unfoldable pub numberOf : List ℕ → Number
 numberOf s = numberIn (isHex s) (unprefixed s)

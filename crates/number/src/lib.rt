@@ -3,8 +3,10 @@ ghost use Prim.Native.Nat.{_<_, _≤_};
 ghost use Rattle.number.specs.Digits.{baseOf, digitOf};
 ghost use Rattle.number.specs.Numbers.{isHex, numberIn, refused, stateOf, stepsOf, unsigned};
 ghost use Rattle.number.specs.Promises.{Parsed, Started, Stepped};
+ghost use Rattle.refusals.specs.Refusals.{bare};
 ghost use mathlib.Core.Path.{_≡_};
-use records::Refusal;
+use refusals::Reason;
+use refusals::Refusal;
 use std::num::wrapping_sub_u64;
 
 // All bits but bit 5, in which alone small letters differ from large ones.
@@ -52,17 +54,17 @@ impl NumberState {
         Self {
             value: 0,
             hex,
-            refusal: Refusal::None,
+            refusal: Refusal::NONE,
         }
     }
 
-    fn refused(self, refusal: Refusal) -> Self
-        ensures { λ r. ⌜ r ≡ stateOf (self .hex) 0 refusal ⌝ }
+    fn refused(self, reason: Reason) -> Self
+        ensures { λ r. ⌜ r ≡ stateOf (self .hex) 0 (bare reason) ⌝ }
     {
         Self {
             value: 0,
             hex: self.hex,
-            refusal,
+            refusal: Refusal { carries: 0, reason },
         }
     }
 
@@ -83,11 +85,11 @@ impl NumberState {
         let digit = digit_of(self.hex, b);
         let base = base_of(self.hex);
         if base <= digit {
-            return self.refused(Refusal::InvalidDigit);
+            return self.refused(Reason::InvalidDigit);
         }
         if MOST / base <= self.value {
             if (MOST - digit) / base < self.value {
-                return self.refused(Refusal::PosOverflow);
+                return self.refused(Reason::PosOverflow);
             }
         }
         self.value = self.value * base + digit;
@@ -139,7 +141,10 @@ fn number_in(hex: bool, s: &[u8]) -> Number
     if s.len() == 0 {
         return Number {
             value: 0,
-            refusal: Refusal::Empty,
+            refusal: Refusal {
+                carries: 0,
+                reason: Reason::Empty,
+            },
         };
     }
     let state = steps(NumberState::start(hex), unsigned_part(s));

@@ -6,7 +6,7 @@ use native.Mathlib.Omega.{arith}
 use Rattle.io.specs.Digits.{digits}
 use Rattle.out.proofs.Laws.{one-count}
 use Rattle.out.specs.Buffers.{putOf, PutIn}
-use Rattle.out.specs.Promises.{Flushed, Put, PutDecimal, PutHex, RoomFor}
+use Rattle.out.specs.Promises.{Fits, Flushed, Put, PutDecimal, PutHex}
 use Rattle.promise.proofs.Laws.{same}
 use Rattle.promise.specs.Promise.{Decides}
 
@@ -16,6 +16,9 @@ one-outcome base one before at number a b p q =
     p .put
     ∙ ap (λ (k : ℕ). putOf before at (digits base k number)) (one-count base number (p .count) (q .count) one (p .fewest) (q .fewest))
     ∙ sym (q .put)
+
+pub fits-decides : Decides Fits
+fits-decides (before, at, count) a b = same
 
 pub put-decides : Decides Put
 put-decides (before, at, text) a b = same
@@ -28,6 +31,3 @@ put-decimal-decides (before, at, number) a b = one-outcome 10 (omega arith) befo
 
 pub flush-decides : Decides Flushed
 flush-decides (held, at) a b = same
-
-pub room-for-decides : Decides RoomFor
-room-for-decides (held, at, count) a b = same

@@ -6,12 +6,12 @@ use mathlib.Core.Path.{_≡_, refl, sym, ap, _∙_}
 use native.Mathlib.Nat.{pow-le-pow-right}
 use native.Mathlib.Numerals.{add-one}
 use native.Mathlib.Omega.{arith}
-use lib.Dec.{ltb}
+use lib.Dec.{leb, ltb}
 use lib.ListN.{length, getD, set}
 use lib.Seq.{paste, paste-suc}
-use borrow.Author.Tests.{le-leb, lt-leb, ltb-true, ltb-false}
+use borrow.Author.Tests.{le-leb, lt-leb, leb-true, leb-false, ltb-true, ltb-false}
 use Rattle.io.specs.Digits.{Fewest}
-use Rattle.out.specs.Buffers.{putOf, roomFor}
+use Rattle.out.specs.Buffers.{putOf}
 
 module _ (before : List ℕ) (at : ℕ) (text : List ℕ) where
   pub put-short : length before < at + length text → putOf before at text ≡ (at, before)
@@ -22,14 +22,13 @@ module _ (before : List ℕ) (at : ℕ) (text : List ℕ) where
   unfolding putOf
   put-fits h = simp (le-leb _ _ h)
 
-module _ (before : List ℕ) (at count : ℕ) where
-  pub room-short : length before < at + count → roomFor before at count ≡ 0
-  unfolding roomFor
-  room-short h = simp (lt-leb _ _ h)
-
-  pub room-fits : at + count ≤ length before → roomFor before at count ≡ at
-  unfolding roomFor
-  room-fits h = simp (le-leb _ _ h)
+-- a count against the room that is left, and their sum against the whole
+pub room-left : (n at count : ℕ) → at ≤ n → leb count (n - at) ≡ leb (at + count) n
+room-left n at count h = by-test (leb count (n - at)) refl
+  where
+    by-test : (t : Bool) → leb count (n - at) ≡ t → leb count (n - at) ≡ leb (at + count) n
+    by-test true e = let g = leb-true count (n - at) e in e ∙ sym (le-leb (at + count) n (omega arith))
+    by-test false e = let g = leb-false count (n - at) e in e ∙ sym (lt-leb (at + count) n (omega arith))
 
 -- one turn of the loop that copies
 pub paste-more : (d : List ℕ) (at : ℕ) (s : List ℕ) (j : ℕ) → at + j < length d → j < length s

@@ -25,7 +25,3 @@ pub record PutIn (base : ℕ) (before : List ℕ) (at number : ℕ) (outcome : �
 -- the bytes that are held: those before the place, or all where the place lies past the end
 abbrev pub heldIn : List ℕ → ℕ → List ℕ
 heldIn before at = take at before
-
--- the place from which so many bytes are to be put: this one, or the first where they do not fit
-unfoldable pub roomFor : List ℕ → ℕ → ℕ → ℕ
-roomFor before at count = cond (fits before at count) at 0

@@ -1,12 +1,22 @@
-// A fixed output buffer: texts and numbers are put behind each other, and what is held is written to standard output when room is short.
+// A fixed output buffer: texts and numbers are put behind each other, and what is held is written to standard output by `flush` alone.
 ghost use Rattle.out.specs.Buffers.{heldIn};
-ghost use Rattle.out.specs.Promises.{Flushed, Put, PutDecimal, PutHex, RoomFor};
+ghost use Rattle.out.specs.Promises.{Fits, Flushed, Put, PutDecimal, PutHex};
 ghost use mathlib.Core.Path.{_≡_};
 use libc::STDERR_FILENO;
 use libc::STDOUT_FILENO;
 
 // The place where what is held begins, and so the one where nothing is held.
 const NOTHING_HELD: usize = 0;
+
+// Whether so many bytes fit behind what is held.
+pub fn fits(buf: &[u8], at: usize, count: usize) -> bool
+    ensures { λ r. ⌜ Fits (now (buf .entry), at, count) r ⌝ }
+{
+    if buf.len() < at {
+        return false;
+    }
+    count <= buf.len() - at
+}
 
 // The place behind the text; where it does not fit, the buffer and the place stay as they are.
 pub fn put(buf: &mut [u8], at: usize, text: &[u8]) -> usize
@@ -59,17 +69,4 @@ pub fn flush(buf: &[u8], at: usize) -> usize
         io::write_all(STDERR_FILENO, b"output could not be written\n");
     }
     NOTHING_HELD
-}
-
-// The place from which so many bytes fit: where they do not fit behind what is held, that is written and the place is 0.
-pub fn room_for(buf: &[u8], at: usize, count: usize) -> usize
-    ensures { λ r. ⌜ RoomFor (now (buf .entry), at, count) r ⌝ }
-{
-    if buf.len() < at {
-        return flush(buf, at);
-    }
-    if buf.len() - at < count {
-        return flush(buf, at);
-    }
-    at
 }

@@ -1,12 +1,14 @@
 -- From a test that antt computes to the fact at each entry: what holds of a whole list by computing holds at every place of it.
 use mathlib.Core.Path.{_≡_, refl, sym, ap, subst, _∙_}
-use mathlib.Core.Bool.{Bool, true, false, _&&_}
-use mathlib.Core.List.{List, [], _∷_}
+use mathlib.Core.Bool.{Bool, true, false, cond, _&&_}
+use mathlib.Core.List.{List, [], _∷_, List·Memᴰ, List·Memᴰ·head, List·Memᴰ·tail}
 use Prim.Native.Nat.{ℕ, zero, suc, _+_, _≤_, _<_}
 use native.Mathlib.Nat.{add-zero, add-suc, suc-add, zero-add, le-of-suc-le-suc, not-suc-le-zero}
 use native.Mathlib.Omega.{arith}
-use lib.Dec.{T}
+use lib.Dec.{T, eqb, eqb→eq}
 use lib.ListN.{length, getD}
+use borrow.Author.Tests.{eq-eqb}
+use Rattle.promise.specs.Member.{member}
 
 pub both-left : (a b : Bool) → T (a && b) → T a
 both-left true b t = tt
@@ -74,3 +76,30 @@ tab-from f i (suc n) (suc k) h = tab-from f (suc i) n k (le-of-suc-le-suc h) ∙
 
 pub tab-at : (f : ℕ → ℕ) (n k : ℕ) → k < n → getD (tab f 0 n) k 0 ≡ f k
 tab-at f n k h = tab-from f 0 n k h ∙ ap f (zero-add k)
+
+-- Membership and its computed test.
+
+pub or-left : (a b : Bool) → T a → T (cond a true b)
+or-left true b t = tt
+or-left false b t = absurd t
+
+pub or-right : (a b : Bool) → T b → T (cond a true b)
+or-right true b t = tt
+or-right false b t = t
+
+pub member-of : (x : ℕ) (ys : List ℕ) → List·Memᴰ x ys → T (member x ys)
+member-of x (y ∷ ys) (List·Memᴰ·head e) = or-left (eqb x y) (member x ys) (is-true (eq-eqb x y e))
+member-of x (y ∷ ys) (List·Memᴰ·tail m) = or-right (eqb x y) (member x ys) (member-of x ys m)
+
+pub of-member : (x : ℕ) (ys : List ℕ) → T (member x ys) → List·Memᴰ x ys
+of-member x [] t = absurd t
+of-member x (y ∷ ys) t = by (eqb x y) refl t (of-member x ys)
+  where
+    by : (b : Bool) → eqb x y ≡ b → T (cond b true (member x ys)) → (T (member x ys) → List·Memᴰ x ys) → List·Memᴰ x (y ∷ ys)
+    by true e s rest = List·Memᴰ·head (eqb→eq x y (is-true e))
+    by false e s rest = List·Memᴰ·tail (rest s)
+
+-- what a test shows of every entry it shows of each
+pub every-mem : {A : Type 0} (f : ℕ → A → Bool) (x : A) (i : ℕ) (xs : List A) → T (every f i xs) → List·Memᴰ x xs → (j : ℕ) × T (f j x)
+every-mem f x i (y ∷ ys) t (List·Memᴰ·head e) = (i, subst (λ z. T (f i z)) (sym e) (both-left (f i y) (every f (suc i) ys) t))
+every-mem f x i (y ∷ ys) t (List·Memᴰ·tail m) = every-mem f x (suc i) ys (both-right (f i y) (every f (suc i) ys) t) m

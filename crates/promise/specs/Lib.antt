@@ -1,1 +1,2 @@
+pub mod Member
 pub mod Promise

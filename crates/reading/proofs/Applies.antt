@@ -2,48 +2,32 @@
 -- test passes at ISS, since every test of every table lies in ISS.
 use mathlib.Core.Path.{_≡_, refl, sym, ap, _∙_, subst}
 use mathlib.Core.Bool.{Bool, true, false, cond, not, _&&_}
-use mathlib.Core.List.{List, [], _∷_, List·Memᴰ, List·Memᴰ·head, List·Memᴰ·tail}
+use mathlib.Core.List.{List, [], _∷_, List·Memᴰ, List·Memᴰ·head, List·Memᴰ·tail, List·Memᴰ·cases-cons, List·Memᴰ·not-nil}
+use mathlib.Core.Logic.{_⊎_, inl, inr}
 use Prim.Native.Nat.{ℕ, suc, _+_, _≤_}
 use lib.Dec.{T, eqb, leb, leb→le, eqb→eq, T-not, not-T}
 use borrow.Author.Tests.{eq-eqb}
-use Rattle.promise.proofs.Tests.{both-left, both-right, both-intro, true-is, is-true, every}
+use Rattle.promise.specs.Member.{member}
+use Rattle.promise.proofs.Tests.{both-left, both-right, both-intro, true-is, is-true, or-left, or-right, member-of, of-member, every, every-mem}
 use Rattle.texts.specs.Rules.{Text}
 use Rattle.texts.specs.Pool.{onList, says, ruleAt}
+use Rattle.refusals.specs.Refusals.{reasonNumber}
 use Rattle.records.specs.Bits.{fieldOf}
-use Rattle.records.specs.Rows.{free, unchecked}
+use Rattle.records.specs.Kinds.{Kind, Free, Unchecked, Checked, Coded, kindOf}
+use Rattle.records.specs.Rows.{rowKind}
 use Rattle.records.specs.declared.Row.{Row}
-use Rattle.tables.specs.Shape.{Test, Condition, always, holds, _and_, _butNot_, Line}
-use Rattle.tables.specs.Layouts.{member, passes, met, keep}
+use Rattle.tables.specs.Shape.{Test, Condition, Line}
+use Rattle.tables.specs.Applying.{passes, met, keep}
 use Rattle.tables.specs.Tables.{Served, layouts, res0, wf, mcr, mcrr, ldc, sve, ld64b, bti, pauth, hvc, brk, fp, breakpoint, softwareStep, watchpoint, instructionAbort, dataAbort, serror, undivided}
 use Rattle.reading.specs.Refusing.{refusing}
-use Rattle.reading.specs.Reading.{Holding, Meets, Applying, none, there, away, Listed}
-use Rattle.reading.proofs.Own.{own-is, own-of, inner}
-
--- Membership and its computed test.
-
-or-left : (a b : Bool) → T a → T (cond a true b)
-or-left true b t = tt
-or-left false b t = absurd t
-
-or-right : (a b : Bool) → T b → T (cond a true b)
-or-right true b t = tt
-or-right false b t = t
+use Rattle.reading.specs.Reading.{Holding, Fulfils, Meets, Applying, none, there, away, Listed}
+use Rattle.reading.proofs.HasBits.{bits-is, bits-of, inner}
 
 pub false-is : (b : Bool) → (T b → ⊥) → b ≡ false
 false-is true h = absurd (h tt)
 false-is false h = refl
 
-pub member-of : (x : ℕ) (ys : List ℕ) → List·Memᴰ x ys → T (member x ys)
-member-of x (y ∷ ys) (List·Memᴰ·head e) = or-left (eqb x y) (member x ys) (is-true (eq-eqb x y e))
-member-of x (y ∷ ys) (List·Memᴰ·tail m) = or-right (eqb x y) (member x ys) (member-of x ys m)
-
-pub of-member : (x : ℕ) (ys : List ℕ) → T (member x ys) → List·Memᴰ x ys
-of-member x [] t = absurd t
-of-member x (y ∷ ys) t = by (eqb x y) refl t (of-member x ys)
-  where
-    by : (b : Bool) → eqb x y ≡ b → T (cond b true (member x ys)) → (T (member x ys) → List·Memᴰ x ys) → List·Memᴰ x (y ∷ ys)
-    by true e s rest = List·Memᴰ·head (eqb→eq x y (is-true e))
-    by false e s rest = List·Memᴰ·tail (rest s)
+-- A value on the list of a rule, and its computed test.
 
 on-list : (x : Text) (ts : List Text) → List·Memᴰ x ts → T (onList ts (x .value))
 unfolding onList
@@ -75,36 +59,30 @@ says-listed rule value t =
     let a : Among (ruleAt rule .texts) value = among-list (ruleAt rule .texts) value t in
     record { text = a .entry .text; among = subst (λ (n : ℕ). List·Memᴰ (record { value = n; text = a .entry .text }) (ruleAt rule .texts)) (sym (a .its)) (a .among) }
 
--- What every line of every table keeps to: its tests and its row lie in ISS, and its kind is that of a reserved field that is not checked
--- or no greater than the last refusal's number.
+-- What every line of every table keeps to: its tests and its row lie in ISS, and a coded row refuses by a number of those that refuse a value.
 
-abbrev within : Condition → Bool
-within always = true
-within (holds t) = leb (t .start + t .width) 25
-within (c and d) = within c && within d
-within (c butNot d) = within c && within d
+abbrev within : ℕ → Condition → Bool
+within i c = leb (c .test .start + c .test .width) 25
 
-abbrev pub numbers : ℕ → Bool
-numbers kind = cond (eqb kind free) true (cond (eqb kind unchecked) true (member kind refusing))
+abbrev pub numbered : Kind → Bool
+numbered Free = true
+numbered (Coded reason) = member (reasonNumber reason) refusing
+numbered Checked = true
+numbered Unchecked = true
 
-abbrev pub fitting : ℕ → Row → Bool
-fitting i r = leb (r .0 + r .1) 25 && numbers (r .5)
+abbrev pub fitting : Row → Bool
+fitting r = leb (r .start + r .width) 25 && numbered (rowKind r)
 
 abbrev fitted : ℕ → Line → Bool
-fitted i l = within (l .condition) && fitting i (l .row)
+fitted i l = every within 0 (l .conditions) && fitting (l .row)
 
-abbrev pub fittedTable : ℕ → Served → Bool
+abbrev fittedTable : ℕ → Served → Bool
 fittedTable i s = every fitted 0 (s .table .lines)
 
 -- the computed test
 all-fitted : T (every fittedTable 0 layouts)
-unfolding layouts res0 wf mcr mcrr ldc sve ld64b bti pauth hvc brk fp breakpoint softwareStep watchpoint instructionAbort dataAbort serror undivided
+unfolding layouts res0 wf mcr mcrr ldc sve ld64b bti pauth hvc brk fp breakpoint softwareStep watchpoint instructionAbort dataAbort serror undivided kindOf
 all-fitted = tt
-
--- what a test shows of every entry it shows of each
-pub every-mem : {A : Type 0} (f : ℕ → A → Bool) (x : A) (i : ℕ) (xs : List A) → T (every f i xs) → List·Memᴰ x xs → (j : ℕ) × T (f j x)
-every-mem f x i (y ∷ ys) t (List·Memᴰ·head e) = (i, subst (λ z. T (f i z)) (sym e) (both-left (f i y) (every f (suc i) ys) t))
-every-mem f x i (y ∷ ys) t (List·Memᴰ·tail m) = every-mem f x (suc i) ys (both-right (f i y) (every f (suc i) ys) t) m
 
 pub fitted-lines : {s : Served} → List·Memᴰ s layouts → T (every fitted 0 (s .table .lines))
 fitted-lines {s} m = every-mem fittedTable s 0 layouts all-fitted m .1
@@ -118,36 +96,35 @@ module _ (v : ℕ) where
   test-holds : (t : Test) → t .start + t .width ≤ 25 → Holding v t → T (atIss v t)
   unfolding passes
   test-holds t h k =
-      subst (λ (n : ℕ). T (member n (t .among))) (own-is (k .own) ∙ sym (inner 25 v (t .start) (t .width) h)) (member-of _ (t .among) (k .among))
+      subst (λ (n : ℕ). T (member n (t .among))) (bits-is (k .has) ∙ sym (inner 25 v (t .start) (t .width) h)) (member-of _ (t .among) (k .among))
 
   test-passes : (t : Test) → t .start + t .width ≤ 25 → T (atIss v t) → Holding v t
   unfolding passes
   test-passes t h k =
       record {
         value = fieldOf v (t .start) (t .width);
-        own = own-of v (t .start) (t .width);
+        has = bits-of v (t .start) (t .width);
         among = of-member _ (t .among) (subst (λ (n : ℕ). T (member n (t .among))) (inner 25 v (t .start) (t .width) h) k);
       }
 
-  -- A condition holds of a value exactly where its test passes at ISS.
-  meets : (c : Condition) → T (within c)
-      → (Meets v c → T (met (atIss v) c)) × (T (met (atIss v) c) → Meets v c)
-  meets always w = (λ m. tt, λ m. tt)
-  meets (holds t) w = (test-holds t (leb→le _ 25 w), test-passes t (leb→le _ 25 w))
-  meets (c and d) w =
-      let p : _ = meets c (both-left (within c) (within d) w) in
-      let q : _ = meets d (both-right (within c) (within d) w) in
-      let a : Bool = met (atIss v) c in
-      let b : Bool = met (atIss v) d in
+  -- A condition is fulfilled by a value exactly where its test says so at ISS.
+  fulfils : (t : Test) → t .start + t .width ≤ 25 → (b : Bool)
+      → (Fulfils v t b → T (cond b (atIss v t) (not (atIss v t)))) × (T (cond b (atIss v t) (not (atIss v t))) → Fulfils v t b)
+  fulfils t h true = (test-holds t h, test-passes t h)
+  fulfils t h false = (λ n. not-T (atIss v t) (λ k. n (test-passes t h k)), λ n k. T-not (atIss v t) n (test-holds t h k))
+
+  meets-met : (i : ℕ) (cs : List Condition) → T (every within i cs) → (Meets v cs → T (met (atIss v) cs)) × (T (met (atIss v) cs) → Meets v cs)
+  meets-met i [] w = (λ m. tt, λ m. tt)
+  meets-met i (c ∷ cs) w =
+      let p : _ = fulfils (c .test) (leb→le _ 25 (both-left (within i c) (every within (suc i) cs) w)) (c .holds) in
+      let q : _ = meets-met (suc i) cs (both-right (within i c) (every within (suc i) cs) w) in
+      let a : Bool = cond (c .holds) (atIss v (c .test)) (not (atIss v (c .test))) in
+      let b : Bool = met (atIss v) cs in
       (λ m. both-intro a b (p .0 (m .0)) (q .0 (m .1)), λ m. (p .1 (both-left a b m), q .1 (both-right a b m)))
-  meets (c butNot d) w =
-      let p : _ = meets c (both-left (within c) (within d) w) in
-      let q : _ = meets d (both-right (within c) (within d) w) in
-      let a : Bool = met (atIss v) c in
-      let b : Bool = met (atIss v) d in (
-        λ m. both-intro a (not b) (p .0 (m .0)) (not-T b (λ t. m .1 (q .1 t))),
-        λ m. (p .1 (both-left a (not b) m), λ k. T-not b (both-right a (not b) m) (q .0 k)),
-      )
+
+  module _ (l : Line) (i : ℕ) (t : T (fitted i l)) where
+    line-met : (Meets v (l .conditions) → T (met (atIss v) (l .conditions))) × (T (met (atIss v) (l .conditions)) → Meets v (l .conditions))
+    line-met = meets-met 0 (l .conditions) (both-left (every within 0 (l .conditions)) _ t)
 
   -- The rows that apply are those that are kept.
   pub applying-is : (i : ℕ) (ls : List Line) (rs : List Row) → T (every fitted i ls) → Applying v ls rs → rs ≡ keep (atIss v) ls
@@ -155,30 +132,32 @@ module _ (v : ℕ) where
   applying-is i (l ∷ ls) rs t (there m a) =
       ap (λ (xs : List Row). l .row ∷ xs) (applying-is (suc i) ls _ (both-right (fitted i l) _ t) a)
       ∙ sym (ap (λ (b : Bool). cond b (l .row ∷ keep (atIss v) ls) (keep (atIss v) ls))
-      (true-is (met (atIss v) (l .condition)) (meets (l .condition) (both-left (within (l .condition)) _ (both-left (fitted i l) _ t)) .0 m)))
+      (true-is (met (atIss v) (l .conditions)) (line-met l i (both-left (fitted i l) _ t) .0 m)))
   applying-is i (l ∷ ls) rs t (away m a) =
       applying-is (suc i) ls rs (both-right (fitted i l) _ t) a
       ∙ sym (ap (λ (b : Bool). cond b (l .row ∷ keep (atIss v) ls) (keep (atIss v) ls))
-      (false-is (met (atIss v) (l .condition)) (λ k. m (meets (l .condition) (both-left (within (l .condition)) _ (both-left (fitted i l) _ t)) .1 k))))
+      (false-is (met (atIss v) (l .conditions)) (λ k. m (line-met l i (both-left (fitted i l) _ t) .1 k))))
 
   pub applying-of : (i : ℕ) (ls : List Line) → T (every fitted i ls) → Applying v ls (keep (atIss v) ls)
   applying-of i [] t = none
   applying-of i (l ∷ ls) t =
-      by (met (atIss v) (l .condition)) refl (applying-of (suc i) ls (both-right (fitted i l) _ t))
+      by (met (atIss v) (l .conditions)) refl (line-met l i (both-left (fitted i l) _ t)) (applying-of (suc i) ls (both-right (fitted i l) _ t))
     where
-      w : (Meets v (l .condition) → T (met (atIss v) (l .condition))) × (T (met (atIss v) (l .condition)) → Meets v (l .condition))
-      w = meets (l .condition) (both-left (within (l .condition)) _ (both-left (fitted i l) _ t))
-
-      by : (b : Bool) → met (atIss v) (l .condition) ≡ b → Applying v ls (keep (atIss v) ls)
-          → Applying v (l ∷ ls) (cond b (l .row ∷ keep (atIss v) ls) (keep (atIss v) ls))
-      by true e rest = there (w .1 (is-true e)) rest
-      by false e rest = away (λ m. subst T e (w .0 m)) rest
+      by : (b : Bool) → met (atIss v) (l .conditions) ≡ b
+          → (Meets v (l .conditions) → T (met (atIss v) (l .conditions))) × (T (met (atIss v) (l .conditions)) → Meets v (l .conditions))
+          → Applying v ls (keep (atIss v) ls) → Applying v (l ∷ ls) (cond b (l .row ∷ keep (atIss v) ls) (keep (atIss v) ls))
+      by true e w rest = there (w .1 (is-true e)) rest
+      by false e w rest = away (λ m. subst T e (w .0 m)) rest
 
 -- the kept rows keep to what the lines keep to
-pub kept-fitting : (f : Test → Bool) (i j : ℕ) (ls : List Line) → T (every fitted i ls) → T (every fitting j (keep f ls))
-kept-fitting f i j [] t = tt
-kept-fitting f i j (l ∷ ls) t = by (met f (l .condition)) (λ k. kept-fitting f (suc i) k ls (both-right (fitted i l) _ t))
+pub kept-fitting : (f : Test → Bool) (i : ℕ) (ls : List Line) → T (every fitted i ls) → (r : Row) → List·Memᴰ r (keep f ls) → T (fitting r)
+kept-fitting f i [] t r m = absurd (List·Memᴰ·not-nil m)
+kept-fitting f i (l ∷ ls) t r m = by (met f (l .conditions)) m (kept-fitting f (suc i) ls (both-right (fitted i l) _ t) r)
   where
-    by : (b : Bool) → ((k : ℕ) → T (every fitting k (keep f ls))) → T (every fitting j (cond b (l .row ∷ keep f ls) (keep f ls)))
-    by true rest = both-intro (fitting j (l .row)) _ (both-right (within (l .condition)) _ (both-left (fitted i l) _ t)) (rest (suc j))
-    by false rest = rest j
+    split : (r ≡ l .row) ⊎ List·Memᴰ r (keep f ls) → (List·Memᴰ r (keep f ls) → T (fitting r)) → T (fitting r)
+    split (inl e) rest = subst (λ (x : Row). T (fitting x)) (sym e) (both-right (every within 0 (l .conditions)) _ (both-left (fitted i l) _ t))
+    split (inr k) rest = rest k
+
+    by : (b : Bool) → List·Memᴰ r (cond b (l .row ∷ keep f ls) (keep f ls)) → (List·Memᴰ r (keep f ls) → T (fitting r)) → T (fitting r)
+    by true m rest = split (List·Memᴰ·cases-cons m) rest
+    by false m rest = rest m

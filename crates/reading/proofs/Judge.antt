@@ -1,101 +1,132 @@
--- A record holds its row exactly where it is the row's record and the row refuses nothing: by what each kind asks.
+-- A record holds its row exactly where it is the row's record and the row is met, and the first row that is not met is the first failure: by
+-- what each kind asks.
 use mathlib.Core.Path.{_≡_, refl, sym, ap, ap₂, _∙_, subst}
 use mathlib.Core.Bool.{Bool, true, false, cond}
-use mathlib.Core.List.{List, [], _∷_, _++_, map, List·Memᴰ, List·Memᴰ·head, List·Memᴰ·tail}
-use Prim.Native.Nat.{ℕ, zero, suc, _+_, _≤_}
-use native.Mathlib.Omega.{arith}
-use lib.Dec.{T, eqb, leb, leb→le}
-use borrow.Author.Tests.{eqb-true, eqb-false}
-use Rattle.promise.proofs.Tests.{every, both-left, both-right, both-intro, true-is, is-true}
+use mathlib.Core.List.{List, [], _∷_, map, List·Memᴰ, List·Memᴰ·head, List·Memᴰ·tail, List·Memᴰ·cases-cons, List·Memᴰ·not-nil}
+use mathlib.Core.Logic.{_⊎_, inl, inr}
+use Prim.Native.Nat.{ℕ, _+_}
+use lib.Dec.{T, eqb, leb, eqb→eq, leb→le}
+use borrow.Author.Tests.{eq-eqb}
+use Rattle.promise.specs.Member.{member}
+use Rattle.promise.proofs.Tests.{both-left, true-is, is-true}
 use Rattle.texts.specs.Pool.{says, textCode, textAt, sayingOf}
 use Rattle.texts.proofs.Laws.{text-said}
+use Rattle.refusals.specs.Refusals.{refusalNumber, carrying, noRefusal}
+use Rattle.refusals.specs.declared.Refusal.{Refusal}
 use Rattle.records.specs.Bits.{fieldOf}
-use Rattle.records.specs.Refusals.{refusalNumber, refusalCarries, refusalBy}
-use Rattle.records.specs.Rows.{valueIn, recordOf, checkOf, asked, free, checked, unchecked}
+use Rattle.records.specs.Rows.{valueIn, recordOf, meets, refusalOf, rowKind}
+use Rattle.records.specs.Kinds.{Kind, Free, Unchecked, Checked, Coded, allows, reasonOf}
 use Rattle.records.specs.declared.Record.{Record}
-use Rattle.records.specs.declared.Refusal.the-variants.{None}
 use Rattle.records.specs.declared.Row.{Row}
-use Rattle.tables.specs.Layouts.{member}
-use Rattle.reading.specs.Refusing.{refusing, Unmet, notZero, notListed}
+use Rattle.esr.specs.Decode.{firstFailure}
+use Rattle.reading.specs.Refusing.{refusing, Met, Unmet, notZero, notListed, First, here, later}
 use Rattle.reading.specs.Reading.{Allowed, Holds, HoldAll, none, more}
-use Rattle.reading.proofs.Own.{own-is, own-of, inner}
-use Rattle.reading.proofs.Applies.{numbers, fitting, false-is, of-member, listed-says, says-listed}
+use Rattle.reading.proofs.HasBits.{bits-is, bits-of, inner}
+use Rattle.reading.proofs.Applies.{numbered, fitting, false-is, listed-says, says-listed}
 
--- The refusal of a number that decode refuses by has that number and carries what it is given.
+-- What a kind allows, and its computed test.
 
-abbrev Each : (ℕ → Type 0) → List ℕ → Type 0
-Each P [] = Unit {0}
-Each P (n ∷ ns) = P n × Each P ns
+allowed-test : (k : Kind) (rule value : ℕ) → Allowed k rule value → T (allows k rule value)
+allowed-test Free rule value a = tt
+allowed-test (Coded reason) rule value a = listed-says a
+allowed-test Checked rule value a = is-true (eq-eqb value 0 a)
+allowed-test Unchecked rule value a = tt
 
-each-at : (P : ℕ → Type 0) (n : ℕ) (ns : List ℕ) → Each P ns → List·Memᴰ n ns → P n
-each-at P n (m ∷ ms) a (List·Memᴰ·head e) = subst P (sym e) (a .0)
-each-at P n (m ∷ ms) a (List·Memᴰ·tail k) = each-at P n ms (a .1) k
+test-allowed : (k : Kind) (rule value : ℕ) → T (allows k rule value) → Allowed k rule value
+test-allowed Free rule value t = tt
+test-allowed (Coded reason) rule value t = says-listed rule value t
+test-allowed Checked rule value t = eqb→eq value 0 t
+test-allowed Unchecked rule value t = tt
 
-abbrev Given : ℕ → ℕ → Type 0
-Given c n = (refusalNumber (refusalBy n c) ≡ n) × (refusalCarries (refusalBy n c) ≡ c) × (1 ≤ n)
+module _ (v : ℕ) (row : Row) where
+  allowed-meets : (value : ℕ) → value ≡ valueIn v row → Allowed (rowKind row) (row .rule) value → T (meets v row)
+  unfolding meets
+  allowed-meets value e a = subst (λ (n : ℕ). T (allows (rowKind row) (row .rule) n)) e (allowed-test (rowKind row) (row .rule) value a)
 
-pub given : (n c : ℕ) → T (member n refusing) → Given c n
-unfolding refusalBy
-given n c t =
-    each-at (Given c) n refusing
-    ((refl, refl, omega arith), ((refl, refl, omega arith), ((refl, refl, omega arith), ((refl, refl, omega arith), ((refl, refl, omega arith), ((refl, refl, omega arith), ((refl, refl, omega arith), ((refl, refl, omega arith), tt))))))))
-    (of-member n refusing t)
+  meets-allowed : T (meets v row) → Allowed (rowKind row) (row .rule) (valueIn v row)
+  unfolding meets
+  meets-allowed t = test-allowed (rowKind row) (row .rule) (valueIn v row) t
 
--- A row refuses nothing and what it asks is met; or it refuses by the number of its kind, carrying its field, and what it asks is not met.
-pub data Judged (v : ℕ) (row : Row) : Type 0 where
-  passes : checkOf v row ≡ None → Allowed row (valueIn v row) → Judged v row
-  fails : checkOf v row ≡ refusalBy (row .5) (valueIn v row) → T (member (row .5) refusing) → Unmet v row (row .5) (valueIn v row) → Judged v row
+  met-meets : Met v row → T (meets v row)
+  met-meets m = allowed-meets (m .value) (bits-is (m .has)) (m .allowed)
 
-pub judge : (v : ℕ) (row : Row) → T (numbers (row .5)) → Judged v row
-unfolding checkOf refusalBy
-judge v row t =
-    by (eqb (row .5) free) (eqb (row .5) unchecked) (eqb (row .5) checked) (eqb (valueIn v row) 0) (says (row .4) (valueIn v row)) refl refl refl refl refl t
+  meets-met : T (meets v row) → Met v row
+  meets-met t = record { value = valueIn v row; has = bits-of v (row .start) (row .width); allowed = meets-allowed t }
+
+  -- a row that is not met refuses for its reason, carrying its field
+  unmet-fails : (f : Refusal) → Unmet v row f → (meets v row ≡ false) × (refusalOf v row ≡ f)
+  unfolding meets refusalOf
+  unmet-fails f (notZero h k e z) = (
+    false-is (meets v row) (λ t. z (bits-is h ∙ eqb→eq (valueIn v row) 0 (subst (λ (x : Kind). T (allows x (row .rule) (valueIn v row))) k t))),
+    ap₂ carrying (ap reasonOf k ∙ sym e) (sym (bits-is h)),
+  )
+  unmet-fails f (notListed h k n) = (
+    false-is (meets v row)
+        (λ t. n (says-listed (row .rule) (f .carries)
+        (subst (λ (x : ℕ). T (says (row .rule) x)) (sym (bits-is h)) (subst (λ (x : Kind). T (allows x (row .rule) (valueIn v row))) k t)))),
+    ap₂ carrying (ap reasonOf k) (sym (bits-is h)),
+  )
+
+  fails-unmet : meets v row ≡ false → Unmet v row (refusalOf v row)
+  unfolding meets refusalOf
+  fails-unmet e = by (rowKind row) refl e
+    where
+      by : (k : Kind) → rowKind row ≡ k → allows k (row .rule) (valueIn v row) ≡ false → Unmet v row (carrying (reasonOf k) (valueIn v row))
+      by Free k e = absurd (subst T e tt)
+      by (Coded reason) k e = notListed (bits-of v (row .start) (row .width)) k (λ l. subst T e (listed-says l))
+      by Checked k e = notZero (bits-of v (row .start) (row .width)) k refl (λ z. subst T e (is-true (eq-eqb (valueIn v row) 0 z)))
+      by Unchecked k e = absurd (subst T e tt)
+
+-- The first failure.
+
+abbrev pub Each : (Row → Type 0) → List Row → Type 0
+Each P rows = (r : Row) → List·Memᴰ r rows → P r
+
+pub each-cons : (P : Row → Type 0) (row : Row) (rows : List Row) → P row → Each P rows → Each P (row ∷ rows)
+each-cons P row rows t p r m = by (List·Memᴰ·cases-cons m)
   where
-    by : (a b c d e : Bool) → eqb (row .5) free ≡ a → eqb (row .5) unchecked ≡ b → eqb (row .5) checked ≡ c → eqb (valueIn v row) 0 ≡ d
-        → says (row .4) (valueIn v row) ≡ e → T (cond a true (cond b true (member (row .5) refusing))) → Judged v row
-    by true b c d e p q r s u t =
-        let k : row .5 ≡ free = eqb-true (row .5) free p in
-        passes (simp p) (record { zero = λ h. absurd (omega arith); listed = λ h. absurd (h .notFree k) })
-    by false true c d e p q r s u t =
-        let k : row .5 ≡ unchecked = eqb-true (row .5) unchecked q in
-        passes (simp (p, q)) (record { zero = λ h. absurd (omega arith); listed = λ h. absurd (h .notUnchecked k) })
-    by false false true true e p q r s u t =
-        let k : row .5 ≡ checked = eqb-true (row .5) checked r in
-        passes (simp (p, q, r, s)) (record { zero = λ h. eqb-true (valueIn v row) 0 s; listed = λ h. absurd (h .notChecked k) })
-    by false false true false e p q r s u t =
-        let k : row .5 ≡ checked = eqb-true (row .5) checked r in
-        fails (simp (p, q, r, s) (ap (λ (n : ℕ). refusalBy n (valueIn v row)) (sym k))) t
-        (notZero (own-of v (row .0) (row .1)) k k (eqb-false (valueIn v row) 0 s))
-    by false false false d true p q r s u t =
-        passes (simp (p, q, r, u))
-        (record { zero = λ h. absurd (eqb-false (row .5) checked r h); listed = λ h. says-listed (row .4) (valueIn v row) (is-true u) })
-    by false false false d false p q r s u t =
-        fails (simp (p, q, r, u)) t
-        (notListed (own-of v (row .0) (row .1))
-        (record { notFree = eqb-false (row .5) free p; notChecked = eqb-false (row .5) checked r; notUnchecked = eqb-false (row .5) unchecked q })
-        refl (λ l. subst T u (listed-says l)))
+    by : (r ≡ row) ⊎ List·Memᴰ r rows → P r
+    by (inl e) = subst P (sym e) t
+    by (inr k) = p r k
 
--- what is not met is not allowed
-pub unmet-allowed : (v : ℕ) (row : Row) (n c : ℕ) → Unmet v row n c → Allowed row c → ⊥
-unmet-allowed v row n c (notZero o k e h) a = h (a .zero k)
-unmet-allowed v row n c (notListed o k e h) a = h (a .listed k)
+-- rows that are all met
+abbrev pub Pass : ℕ → List Row → Type 0
+Pass v rows = Each (λ r. T (meets v r)) rows
 
--- a row that refuses nothing is met, and one that is met refuses nothing
-pub check-allowed : (v : ℕ) (row : Row) → T (numbers (row .5)) → checkOf v row ≡ None → Allowed row (valueIn v row)
-check-allowed v row t h = by (judge v row t)
+pub pass-first : (v : ℕ) (rows : List Row) → Pass v rows → firstFailure v rows ≡ noRefusal
+unfolding firstFailure
+pass-first v [] p = refl
+pass-first v (r ∷ rs) p =
+    ap (λ (b : Bool). cond b (firstFailure v rs) (refusalOf v r)) (true-is (meets v r) (p r (List·Memᴰ·head refl))) ∙ pass-first v rs (λ x m. p x (List·Memᴰ·tail m))
+
+-- the first failure is what the decoder's checks answer
+pub first-is : (v : ℕ) (f : Refusal) (rows : List Row) → First v f rows → firstFailure v rows ≡ f
+unfolding firstFailure
+first-is v f (r ∷ rs) (here u) =
+    let w : _ = unmet-fails v r f u in
+    ap (λ (b : Bool). cond b (firstFailure v rs) (refusalOf v r)) (w .0) ∙ w .1
+first-is v f (r ∷ rs) (later m k) =
+    ap (λ (b : Bool). cond b (firstFailure v rs) (refusalOf v r)) (true-is (meets v r) (met-meets v r m)) ∙ first-is v f rs k
+
+-- all rows are met, or what the decoder's checks answer is the first failure
+pub pass-or-first : (v : ℕ) (rows : List Row) → Pass v rows ⊎ First v (firstFailure v rows) rows
+unfolding firstFailure
+pass-or-first v [] = inl (λ r m. absurd (List·Memᴰ·not-nil m))
+pass-or-first v (r ∷ rs) = by (meets v r) refl (pass-or-first v rs)
   where
-    by : Judged v row → Allowed row (valueIn v row)
-    by (passes c a) = a
-    by (fails c m n) =
-        let g : Given (valueIn v row) (row .5) = given (row .5) (valueIn v row) m in
-        absurd (omega (arith, g .2, sym (g .0) ∙ ap refusalNumber (sym c ∙ h)))
+    by : (b : Bool) → meets v r ≡ b → Pass v rs ⊎ First v (firstFailure v rs) rs → Pass v (r ∷ rs) ⊎ First v (cond b (firstFailure v rs) (refusalOf v r)) (r ∷ rs)
+    by true e (inl p) = inl (each-cons (λ x. T (meets v x)) r rs (is-true e) p)
+    by true e (inr f) = inr (later (meets-met v r (is-true e)) f)
+    by false e rest = inr (here (fails-unmet v r e))
 
-pub allowed-check : (v : ℕ) (row : Row) → T (numbers (row .5)) → Allowed row (valueIn v row) → checkOf v row ≡ None
-allowed-check v row t h = by (judge v row t)
-  where
-    by : Judged v row → checkOf v row ≡ None
-    by (passes c a) = c
-    by (fails c m n) = absurd (unmet-allowed v row (row .5) (valueIn v row) n h)
+-- a first failure is by a number of those that refuse a value
+unmet-number : (v : ℕ) (row : Row) (f : Refusal) → T (numbered (rowKind row)) → Unmet v row f → T (member (refusalNumber f) refusing)
+unmet-number v row f t (notZero h k e z) = subst (λ (n : ℕ). T (member n refusing)) (sym (ap (λ r. refusalNumber (carrying r 0)) e)) tt
+unmet-number v row f t (notListed h k n) = subst (λ (x : Kind). T (numbered x)) k t
+
+pub first-number : (v : ℕ) (f : Refusal) (rows : List Row) → Each (λ r. T (numbered (rowKind r))) rows → First v f rows → T (member (refusalNumber f) refusing)
+first-number v f (r ∷ rs) t (here u) = unmet-number v r f (t r (List·Memᴰ·head refl)) u
+first-number v f (r ∷ rs) t (later m k) = first-number v f rs (λ x n. t x (List·Memᴰ·tail n)) k
 
 -- The record of a row.
 
@@ -106,104 +137,70 @@ eta : (x : Record) → x ≡ made (x .value) (x .name) (x .long) (x .text) (x .s
 unfolding made
 eta x = refl
 
-eta-of : (v : ℕ) (row : Row) → made (valueIn v row) (row .2) (row .3) (textCode (row .4) (valueIn v row)) (row .0) (row .1) ≡ recordOf v row
+eta-of : (v : ℕ) (row : Row) → made (valueIn v row) (row .name) (row .long) (textCode (row .rule) (valueIn v row)) (row .start) (row .width) ≡ recordOf v row
 unfolding made recordOf
 eta-of v row = refl
 
--- A record that holds its row is the row's record, whose row refuses nothing.
+-- A record that holds its row is the row's record.
 pub holds-is : (v : ℕ) (row : Row) (x : Record) → Holds v row x → x ≡ recordOf v row
 unfolding textCode
 holds-is v row x h =
-    let e : x .value ≡ valueIn v row = own-is (h .own) in
-    let t : x .text ≡ textCode (row .4) (valueIn v row) = by (says (row .4) (x .value)) refl ∙ ap (textCode (row .4)) e in
+    let e : x .value ≡ valueIn v row = bits-is (h .has) in
+    let t : x .text ≡ textCode (row .rule) (valueIn v row) = by (says (row .rule) (x .value)) refl ∙ ap (textCode (row .rule)) e in
     cc (eta x, eta-of v row, h .start, h .width, h .name, h .long)
   where
-    by : (b : Bool) → says (row .4) (x .value) ≡ b → x .text ≡ textCode (row .4) (x .value)
-    by true e = h .said (says-listed (row .4) (x .value) (is-true e)) ∙ simp e
+    by : (b : Bool) → says (row .rule) (x .value) ≡ b → x .text ≡ textCode (row .rule) (x .value)
+    by true e = h .said (says-listed (row .rule) (x .value) (is-true e)) ∙ simp e
     by false e = h .unsaid (λ l. subst T e (listed-says l)) ∙ simp e
 
 -- The text of a record that holds its row is what the row's rule says of its value.
-pub held-text : (v : ℕ) (row : Row) (x : Record) → Holds v row x → textAt (x .text) ≡ sayingOf (row .4) (x .value)
+pub held-text : (v : ℕ) (row : Row) (x : Record) → Holds v row x → textAt (x .text) ≡ sayingOf (row .rule) (x .value)
 unfolding recordOf
 held-text v row x h =
-    subst (λ (y : Record). textAt (y .text) ≡ sayingOf (row .4) (y .value)) (sym (holds-is v row x h)) (text-said (row .4) (valueIn v row))
+    subst (λ (y : Record). textAt (y .text) ≡ sayingOf (row .rule) (y .value)) (sym (holds-is v row x h)) (text-said (row .rule) (valueIn v row))
 
--- The record of a row that refuses nothing holds it.
-pub holds-of : (v : ℕ) (row : Row) → Allowed row (valueIn v row) → Holds v row (recordOf v row)
+-- The record of a row that is met holds it.
+holds-of : (v : ℕ) (row : Row) → T (meets v row) → Holds v row (recordOf v row)
 unfolding recordOf textCode
-holds-of v row a =
+holds-of v row t =
     record {
       start = refl;
       width = refl;
       name = refl;
       long = refl;
-      own = own-of v (row .0) (row .1);
-      said = λ l. simp (true-is (says (row .4) (valueIn v row)) (listed-says l));
-      unsaid = λ n. simp (false-is (says (row .4) (valueIn v row)) (λ t. n (says-listed (row .4) (valueIn v row) t)));
-      allowed = a;
+      has = bits-of v (row .start) (row .width);
+      said = λ l. simp (true-is (says (row .rule) (valueIn v row)) (listed-says l));
+      unsaid = λ n. simp (false-is (says (row .rule) (valueIn v row)) (λ t. n (says-listed (row .rule) (valueIn v row) t)));
+      allowed = meets-allowed v row t;
     }
-
--- Rows refuse nothing.
-abbrev pub Pass : ℕ → List Row → Type 0
-Pass v [] = Unit {0}
-Pass v (r ∷ rs) = (checkOf v r ≡ None) × Pass v rs
-
-abbrev pub numbered : ℕ → Row → Bool
-numbered i r = numbers (r .5)
 
 pub hold-all-is : (v : ℕ) (rows : List Row) (xs : List Record) → HoldAll v rows xs → xs ≡ map (recordOf v) rows
 hold-all-is v [] xs none = refl
 hold-all-is v (r ∷ rs) xs (more h hs) = ap₂ (λ (y : Record) (ys : List Record). y ∷ ys) (holds-is v r _ h) (hold-all-is v rs _ hs)
 
-pub hold-all-pass : (v i : ℕ) (rows : List Row) (xs : List Record) → T (every numbered i rows) → HoldAll v rows xs → Pass v rows
-hold-all-pass v i [] xs t none = tt
-hold-all-pass v i (r ∷ rs) xs t (more h hs) = (
-  allowed-check v r (both-left (numbers (r .5)) _ t) (subst (Allowed r) (own-is (h .own)) (h .allowed)),
-  hold-all-pass v (suc i) rs _ (both-right (numbers (r .5)) _ t) hs,
-)
+pub hold-all-pass : (v : ℕ) (rows : List Row) (xs : List Record) → HoldAll v rows xs → Pass v rows
+hold-all-pass v [] xs none = λ r m. absurd (List·Memᴰ·not-nil m)
+hold-all-pass v (r ∷ rs) xs (more {row} {x} h hs) = each-cons (λ x. T (meets v x)) r rs (allowed-meets v r (x .value) (bits-is (h .has)) (h .allowed)) (hold-all-pass v rs _ hs)
 
-pub hold-all-of : (v i : ℕ) (rows : List Row) → T (every numbered i rows) → Pass v rows → HoldAll v rows (map (recordOf v) rows)
-hold-all-of v i [] t p = none
-hold-all-of v i (r ∷ rs) t p =
-    more (holds-of v r (check-allowed v r (both-left (numbers (r .5)) _ t) (p .0))) (hold-all-of v (suc i) rs (both-right (numbers (r .5)) _ t) (p .1))
+pub hold-all-of : (v : ℕ) (rows : List Row) → Pass v rows → HoldAll v rows (map (recordOf v) rows)
+hold-all-of v [] p = none
+hold-all-of v (r ∷ rs) p = more (holds-of v r (p r (List·Memᴰ·head refl))) (hold-all-of v rs (λ x m. p x (List·Memᴰ·tail m)))
 
 -- Rows within ISS say of the value what they say of ISS.
 module _ (v : ℕ) where
-  in-iss : (r : Row) → T (leb (r .0 + r .1) 25) → valueIn (fieldOf v 0 25) r ≡ valueIn v r
-  in-iss r t = inner 25 v (r .0) (r .1) (leb→le _ 25 t)
+  in-iss : (r : Row) → T (fitting r) → valueIn (fieldOf v 0 25) r ≡ valueIn v r
+  in-iss r t = inner 25 v (r .start) (r .width) (leb→le _ 25 (both-left (leb (r .start + r .width) 25) _ t))
 
-  pub check-iss : (i : ℕ) (r : Row) → T (fitting i r) → checkOf (fieldOf v 0 25) r ≡ checkOf v r
-  unfolding checkOf
-  check-iss i r t = ap (asked (r .5) (r .4)) (in-iss r (both-left (leb (r .0 + r .1) 25) _ t))
+  pub first-iss : (rows : List Row) → Each (λ r. T (fitting r)) rows → firstFailure (fieldOf v 0 25) rows ≡ firstFailure v rows
+  unfolding firstFailure meets refusalOf
+  first-iss [] t = refl
+  first-iss (r ∷ rs) t =
+      ap₂ (λ (n : ℕ) (f : Refusal). cond (allows (rowKind r) (r .rule) n) f (carrying (reasonOf (rowKind r)) n)) (in-iss r (t r (List·Memᴰ·head refl)))
+      (first-iss rs (λ x m. t x (List·Memᴰ·tail m)))
 
-  record-iss : (i : ℕ) (r : Row) → T (fitting i r) → recordOf (fieldOf v 0 25) r ≡ recordOf v r
+  pub records-iss : (rows : List Row) → Each (λ r. T (fitting r)) rows → map (recordOf (fieldOf v 0 25)) rows ≡ map (recordOf v) rows
   unfolding recordOf
-  record-iss i r t =
-      ap (λ (n : ℕ). record { value = n; name = r .2; long = r .3; text = textCode (r .4) n; start = r .0; width = r .1 })
-      (in-iss r (both-left (leb (r .0 + r .1) 25) _ t))
-
-  pub records-iss : (i : ℕ) (rows : List Row) → T (every fitting i rows) → map (recordOf (fieldOf v 0 25)) rows ≡ map (recordOf v) rows
-  records-iss i [] t = refl
-  records-iss i (r ∷ rs) t =
-      ap₂ (λ (y : Record) (ys : List Record). y ∷ ys) (record-iss i r (both-left (fitting i r) _ t)) (records-iss (suc i) rs (both-right (fitting i r) _ t))
-
-  pub pass-iss : (i : ℕ) (rows : List Row) → T (every fitting i rows) → Pass v rows → Pass (fieldOf v 0 25) rows
-  pass-iss i [] t p = tt
-  pass-iss i (r ∷ rs) t p = (check-iss i r (both-left (fitting i r) _ t) ∙ p .0, pass-iss (suc i) rs (both-right (fitting i r) _ t) (p .1))
-
-  pub iss-pass : (i : ℕ) (rows : List Row) → T (every fitting i rows) → Pass (fieldOf v 0 25) rows → Pass v rows
-  iss-pass i [] t p = tt
-  iss-pass i (r ∷ rs) t p = (sym (check-iss i r (both-left (fitting i r) _ t)) ∙ p .0, iss-pass (suc i) rs (both-right (fitting i r) _ t) (p .1))
-
-pub fitting-numbered : (i : ℕ) (rows : List Row) → T (every fitting i rows) → T (every numbered i rows)
-fitting-numbered i [] t = tt
-fitting-numbered i (r ∷ rs) t =
-    both-intro (numbers (r .5)) _ (both-right (leb (r .0 + r .1) 25) _ (both-left (fitting i r) _ t)) (fitting-numbered (suc i) rs (both-right (fitting i r) _ t))
-
-pub pass-append : (v : ℕ) (rs ss : List Row) → Pass v (rs ++ ss) → Pass v rs × Pass v ss
-pass-append v [] ss p = (tt, p)
-pass-append v (r ∷ rs) ss p = let q : _ = pass-append v rs ss (p .1) in ((p .0, q .0), q .1)
-
-pub append-pass : (v : ℕ) (rs ss : List Row) → Pass v rs → Pass v ss → Pass v (rs ++ ss)
-append-pass v [] ss p q = q
-append-pass v (r ∷ rs) ss p q = (p .0, append-pass v rs ss (p .1) q)
+  records-iss [] t = refl
+  records-iss (r ∷ rs) t =
+      ap₂ (λ (n : ℕ) (ys : List Record). record { value = n; name = r .name; long = r .long; text = textCode (r .rule) n; start = r .start; width = r .width } ∷ ys)
+      (in-iss r (t r (List·Memᴰ·head refl))) (records-iss rs (λ x m. t x (List·Memᴰ·tail m)))

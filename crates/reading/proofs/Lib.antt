@@ -1,7 +1,8 @@
-pub mod Own
+pub mod HasBits
 pub mod Applies
 pub mod Served
 pub mod Judge
+pub mod Ordered
 pub mod Outcome
 pub mod Reading
 pub mod Leaves
@@ -9,6 +10,4 @@ pub mod Decides
 pub mod Sums
 pub mod Torn
 pub mod ShutOut
-pub mod Ordered
-pub mod Refusing
 pub mod Given

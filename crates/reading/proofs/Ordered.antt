@@ -1,132 +1,179 @@
--- The checks of a layout in 01's order are the rows at the decoder's places: rows that tile ISS start at different bits, so that a start
--- names one row.
+-- The checks of a layout in 01's order are those that the decoder makes, and cover every row that asks something: rows that tile ISS start at
+-- different bits, so that a start names one row.
 use mathlib.Core.Path.{_≡_, refl, sym, ap, ap₂, _∙_, subst}
-use mathlib.Core.Bool.{Bool, true, false, cond, not, _&&_}
-use mathlib.Core.List.{List, [], _∷_, _++_, List·Memᴰ, List·Memᴰ·head, List·Memᴰ·tail, List·Memᴰ·not-nil, List·Memᴰ·cases-cons}
+use mathlib.Core.Bool.{Bool, true, false, cond, not, _&&_, _||_}
+use mathlib.Core.List.{List, [], _∷_, _++_, List·Memᴰ, List·Memᴰ·head, List·Memᴰ·tail, List·Memᴰ·not-nil, List·Memᴰ·cases-cons, List·Memᴰ·append-cases, List·Memᴰ·eq-of-singleton}
 use mathlib.Core.Logic.{_⊎_, inl, inr}
 use Prim.Native.Nat.{ℕ, suc, _+_, _≤_, _<_}
 use native.Mathlib.Omega.{arith}
-use lib.Dec.{T, eqb, leb, eqb→eq, leb→le, T-not, not-T}
-use lib.ListN.{getD}
+use lib.Dec.{T, eqb, leb, eqb→eq, leb→le}
 use borrow.Author.Tests.{eq-eqb}
-use Rattle.promise.proofs.Tests.{both-left, both-right, both-intro, is-true}
-use Rattle.records.specs.Rows.{free, unchecked}
+use Rattle.promise.specs.Member.{member}
+use Rattle.promise.proofs.Tests.{both-left, both-right, both-intro, is-true, every, every-mem}
+use Rattle.records.specs.Rows.{valueIn, meets, rowKind}
+use Rattle.records.specs.Kinds.{Kind, Free, Unchecked, Checked, Coded, allows}
 use Rattle.records.specs.declared.Row.{Row}
-use Rattle.tables.specs.Layouts.{asks, asking, placeOf, placesOf, pad}
-use Rattle.tables.proofs.Sound.{tiles, tiled}
-use Rattle.reading.specs.Refusing.{Asking, Ordered, none, asked, away}
+use Rattle.tables.specs.Applying.{asks, asking, askingAt, inOrder}
+use Rattle.tables.proofs.Sound.{tiles, tiled, covers}
+use Rattle.reading.specs.Refusing.{Asks, coded, checked, Asking, Ordered, none, asked, away}
+use Rattle.reading.proofs.Judge.{Pass}
 
 -- Rows that leave no gap start at different bits.
 
-below : (row : Row) (top : ℕ) (rows : List Row) → T (tiles top rows) → List·Memᴰ row rows → row .0 < top
-below row top (r ∷ rs) t m = by (List·Memᴰ·cases-cons m) (below row (r .0) rs (both-right (leb 1 (r .1)) _ u))
+below : (row : Row) (top : ℕ) (rows : List Row) → T (tiles top rows) → List·Memᴰ row rows → row .start < top
+below row top (r ∷ rs) t m = by (List·Memᴰ·cases-cons m) (below row (r .start) rs (both-right (leb 1 (r .width)) _ u))
   where
-    u : T (leb 1 (r .1) && tiles (r .0) rs)
-    u = both-right (eqb (r .0 + r .1) top) _ t
+    u : T (leb 1 (r .width) && tiles (r .start) rs)
+    u = both-right (eqb (r .start + r .width) top) _ t
 
-    here : r .0 < top
+    here : r .start < top
     here =
-        let e : r .0 + r .1 ≡ top = eqb→eq (r .0 + r .1) top (both-left (eqb (r .0 + r .1) top) _ t) in
-        let w : 1 ≤ r .1 = leb→le 1 (r .1) (both-left (leb 1 (r .1)) _ u) in
+        let e : r .start + r .width ≡ top = eqb→eq (r .start + r .width) top (both-left (eqb (r .start + r .width) top) _ t) in
+        let w : 1 ≤ r .width = leb→le 1 (r .width) (both-left (leb 1 (r .width)) _ u) in
         omega arith
 
-    by : (row ≡ r) ⊎ List·Memᴰ row rs → (List·Memᴰ row rs → row .0 < r .0) → row .0 < top
-    by (inl e) rest = subst (λ (x : Row). x .0 < top) (sym e) here
-    by (inr k) rest = let a : row .0 < r .0 = rest k in let b : r .0 < top = here in omega arith
+    by : (row ≡ r) ⊎ List·Memᴰ row rs → (List·Memᴰ row rs → row .start < r .start) → row .start < top
+    by (inl e) rest = subst (λ (x : Row). x .start < top) (sym e) here
+    by (inr k) rest = let a : row .start < r .start = rest k in let b : r .start < top = here in omega arith
 
-same-start : (a b : Row) (top : ℕ) (rows : List Row) → T (tiles top rows) → List·Memᴰ a rows → List·Memᴰ b rows → a .0 ≡ b .0 → a ≡ b
+same-start : (a b : Row) (top : ℕ) (rows : List Row) → T (tiles top rows) → List·Memᴰ a rows → List·Memᴰ b rows → a .start ≡ b .start → a ≡ b
 same-start a b top [] t m n e = absurd (List·Memᴰ·not-nil m)
-same-start a b top (r ∷ rs) t m n e = by (List·Memᴰ·cases-cons m) (List·Memᴰ·cases-cons n) (λ k l. same-start a b (r .0) rs v k l e)
+same-start a b top (r ∷ rs) t m n e = by (List·Memᴰ·cases-cons m) (List·Memᴰ·cases-cons n) (λ k l. same-start a b (r .start) rs v k l e)
   where
-    v : T (tiles (r .0) rs)
-    v = both-right (leb 1 (r .1)) _ (both-right (eqb (r .0 + r .1) top) _ t)
+    v : T (tiles (r .start) rs)
+    v = both-right (leb 1 (r .width)) _ (both-right (eqb (r .start + r .width) top) _ t)
 
     by : (a ≡ r) ⊎ List·Memᴰ a rs → (b ≡ r) ⊎ List·Memᴰ b rs → (List·Memᴰ a rs → List·Memᴰ b rs → a ≡ b) → a ≡ b
     by (inl p) (inl q) rest = p ∙ sym q
     by (inl p) (inr l) rest =
-        let h : b .0 < r .0 = below b (r .0) rs v l in let f : a .0 ≡ r .0 = ap (λ (x : Row). x .0) p in absurd (omega arith)
+        let h : b .start < r .start = below b (r .start) rs v l in let f : a .start ≡ r .start = ap (λ (x : Row). x .start) p in absurd (omega arith)
     by (inr k) (inl q) rest =
-        let h : a .0 < r .0 = below a (r .0) rs v k in let f : b .0 ≡ r .0 = ap (λ (x : Row). x .0) q in absurd (omega arith)
+        let h : a .start < r .start = below a (r .start) rs v k in let f : b .start ≡ r .start = ap (λ (x : Row). x .start) q in absurd (omega arith)
     by (inr k) (inr l) rest = rest k l
 
-pub one-start : (a b : Row) (rows : List Row) → T (tiled rows) → List·Memᴰ a rows → List·Memᴰ b rows → a .0 ≡ b .0 → a ≡ b
+one-start : (a b : Row) (rows : List Row) → T (tiled rows) → List·Memᴰ a rows → List·Memᴰ b rows → a .start ≡ b .start → a ≡ b
 one-start a b [] t m n e = absurd (List·Memᴰ·not-nil m)
 one-start a b (r ∷ rs) t m n e = same-start a b 25 (r ∷ rs) t m n e
 
 -- A row that asks something, and its computed test.
 
+pub asks-test : (k : Kind) → Asks k → T (asks k)
+asks-test (Coded reason) coded = tt
+asks-test Checked checked = tt
+
+pub test-asks : (k : Kind) → T (asks k) → Asks k
+test-asks Free t = absurd t
+test-asks (Coded reason) t = coded
+test-asks Checked t = checked
+test-asks Unchecked t = absurd t
+
 asking-test : {rows : List Row} {s : ℕ} {row : Row} → Asking rows s row → T (asking s row)
-asking-test {rows} {s} {row} a =
-    both-intro (eqb (row .0) s) (asks (row .5)) (is-true (eq-eqb (row .0) s (a .starts)))
-    (both-intro (not (eqb (row .5) free)) (not (eqb (row .5) unchecked))
-    (not-T (eqb (row .5) free) (λ t. a .notFree (eqb→eq (row .5) free t)))
-    (not-T (eqb (row .5) unchecked) (λ t. a .notUnchecked (eqb→eq (row .5) unchecked t))))
+asking-test {rows} {s} {row} a = both-intro (eqb (row .start) s) (asks (rowKind row)) (is-true (eq-eqb (row .start) s (a .starts))) (asks-test (rowKind row) (a .asks))
 
 test-asking : (rows : List Row) (s : ℕ) (row : Row) → List·Memᴰ row rows → T (asking s row) → Asking rows s row
 test-asking rows s row m t =
-    let k : T (asks (row .5)) = both-right (eqb (row .0) s) (asks (row .5)) t in
     record {
       among = m;
-      starts = eqb→eq (row .0) s (both-left (eqb (row .0) s) (asks (row .5)) t);
-      notFree = λ e. T-not (eqb (row .5) free) (both-left (not (eqb (row .5) free)) (not (eqb (row .5) unchecked)) k) (is-true (eq-eqb (row .5) free e));
-      notUnchecked =
-          λ e.
-          T-not (eqb (row .5) unchecked) (both-right (not (eqb (row .5) free)) (not (eqb (row .5) unchecked)) k) (is-true (eq-eqb (row .5) unchecked e));
+      starts = eqb→eq (row .start) s (both-left (eqb (row .start) s) (asks (rowKind row)) t);
+      asks = test-asks (rowKind row) (both-right (eqb (row .start) s) (asks (rowKind row)) t);
     }
 
--- the place of the row that starts at s and asks something, or that there is none
-data Look (n : ℕ) (rows : List Row) (s : ℕ) : Type 0 where
-  missing : placeOf n rows s ≡ [] → ((row : Row) → List·Memᴰ row rows → T (asking s row) → ⊥) → Look n rows s
-  found : (k : ℕ) → placeOf n rows s ≡ (n + k) ∷ [] → List·Memᴰ (getD rows k pad) rows → T (asking s (getD rows k pad)) → Look n rows s
+-- the row that starts at s and asks something, or that there is none
+data Look (rows : List Row) (s : ℕ) : Type 0 where
+  missing : askingAt rows s ≡ [] → ((row : Row) → Asking rows s row → ⊥) → Look rows s
+  found : (row : Row) → askingAt rows s ≡ row ∷ [] → Asking rows s row → Look rows s
 
-look : (n : ℕ) (rows : List Row) (s : ℕ) → Look n rows s
-look n [] s = missing refl (λ row m t. List·Memᴰ·not-nil m)
-look n (r ∷ rs) s = by (asking s r) refl (look (suc n) rs s)
+look : (rows : List Row) (s : ℕ) → Look rows s
+look [] s = missing refl (λ row a. List·Memᴰ·not-nil (a .among))
+look (r ∷ rs) s = by (asking s r) refl (look rs s)
   where
-    not-here : asking s r ≡ false → ((row : Row) → List·Memᴰ row rs → T (asking s row) → ⊥) → (row : Row) → T (asking s row)
-        → (row ≡ r) ⊎ List·Memᴰ row rs → ⊥
+    not-here : asking s r ≡ false → ((row : Row) → Asking rs s row → ⊥) → (row : Row) → T (asking s row) → (row ≡ r) ⊎ List·Memᴰ row rs → ⊥
     not-here e h row t (inl q) = subst T e (subst (λ (x : Row). T (asking s x)) q t)
-    not-here e h row t (inr k) = h row k t
+    not-here e h row t (inr k) = h row (test-asking rs s row k t)
 
-    by : (b : Bool) → asking s r ≡ b → Look (suc n) rs s → Look n (r ∷ rs) s
-    by true e rest =
-        found 0 (ap (λ (b : Bool). cond b (n ∷ []) (placeOf (suc n) rs s)) e ∙ ap (λ (k : ℕ). k ∷ []) (omega arith)) (List·Memᴰ·head refl) (is-true e)
+    by : (b : Bool) → asking s r ≡ b → Look rs s → Look (r ∷ rs) s
+    by true e rest = found r (ap (λ (b : Bool). cond b (r ∷ []) (askingAt rs s)) e) (test-asking (r ∷ rs) s r (List·Memᴰ·head refl) (is-true e))
     by false e (missing p h) =
-        missing (ap (λ (b : Bool). cond b (n ∷ []) (placeOf (suc n) rs s)) e ∙ p) (λ row m t. not-here e h row t (List·Memᴰ·cases-cons m))
-    by false e (found k p m t) =
-        found (suc k) (ap (λ (b : Bool). cond b (n ∷ []) (placeOf (suc n) rs s)) e ∙ p ∙ ap (λ (j : ℕ). j ∷ []) (omega arith)) (List·Memᴰ·tail m) t
+        missing (ap (λ (b : Bool). cond b (r ∷ []) (askingAt rs s)) e ∙ p) (λ row a. not-here e h row (asking-test a) (List·Memᴰ·cases-cons (a .among)))
+    by false e (found row p a) =
+        found row (ap (λ (b : Bool). cond b (r ∷ []) (askingAt rs s)) e ∙ p) (test-asking (r ∷ rs) s row (List·Memᴰ·tail (a .among)) (asking-test a))
 
--- the rows at places
-abbrev pub rowsIn : List Row → List ℕ → List Row
-rowsIn rows [] = []
-rowsIn rows (k ∷ ks) = getD rows k pad ∷ rowsIn rows ks
-
--- The rows at the decoder's places are in 01's order, and no others are.
-pub ordered-of : (rows : List Row) (ss : List ℕ) → Ordered rows ss (rowsIn rows (placesOf rows ss))
+-- The decoder's checks are in 01's order, and no others are.
+pub ordered-of : (rows : List Row) (ss : List ℕ) → Ordered rows ss (inOrder rows ss)
 ordered-of rows [] = none
-ordered-of rows (s ∷ ss) = by (look 0 rows s) (ordered-of rows ss)
+ordered-of rows (s ∷ ss) = by (look rows s) (ordered-of rows ss)
   where
-    by : Look 0 rows s → Ordered rows ss (rowsIn rows (placesOf rows ss)) → Ordered rows (s ∷ ss) (rowsIn rows (placeOf 0 rows s ++ placesOf rows ss))
-    by (missing p h) rest =
-        subst (λ (ks : List ℕ). Ordered rows (s ∷ ss) (rowsIn rows (ks ++ placesOf rows ss))) (sym p)
-        (away (λ row a. h row (a .among) (asking-test a)) rest)
-    by (found k p m t) rest =
-        subst (λ (ks : List ℕ). Ordered rows (s ∷ ss) (rowsIn rows (ks ++ placesOf rows ss))) (sym (p ∙ ap (λ (j : ℕ). j ∷ []) (omega arith)))
-        (asked (test-asking rows s (getD rows k pad) m t) rest)
+    by : Look rows s → Ordered rows ss (inOrder rows ss) → Ordered rows (s ∷ ss) (askingAt rows s ++ inOrder rows ss)
+    by (missing p h) rest = subst (λ (xs : List Row). Ordered rows (s ∷ ss) (xs ++ inOrder rows ss)) (sym p) (away h rest)
+    by (found row p a) rest = subst (λ (xs : List Row). Ordered rows (s ∷ ss) (xs ++ inOrder rows ss)) (sym p) (asked a rest)
 
-module _ (rows : List Row) (t : T (tiled rows)) (s : ℕ) (ss : List ℕ) (cs : List Row) (rest : cs ≡ rowsIn rows (placesOf rows ss)) where
-  asked-is : (row : Row) → Asking rows s row → Look 0 rows s → row ∷ cs ≡ rowsIn rows (placeOf 0 rows s ++ placesOf rows ss)
-  asked-is row a (missing p h) = absurd (h row (a .among) (asking-test a))
-  asked-is row a (found k p m u) =
-      ap₂ (λ (x : Row) (xs : List Row). x ∷ xs)
-      (one-start row (getD rows k pad) rows t (a .among) m (a .starts ∙ sym (test-asking rows s (getD rows k pad) m u .starts))) rest
-      ∙ ap (λ (ks : List ℕ). rowsIn rows (ks ++ placesOf rows ss)) (sym (p ∙ ap (λ (j : ℕ). j ∷ []) (omega arith)))
+module _ (rows : List Row) (t : T (tiled rows)) where
+  -- the row that asks something at a start is the one that is found there
+  asked-at : (s : ℕ) (row : Row) → Asking rows s row → askingAt rows s ≡ row ∷ []
+  asked-at s row a = by (look rows s)
+    where
+      by : Look rows s → askingAt rows s ≡ row ∷ []
+      by (missing p h) = absurd (h row a)
+      by (found x p b) = p ∙ ap (λ (y : Row). y ∷ []) (one-start x row rows t (b .among) (a .among) (b .starts ∙ sym (a .starts)))
 
-  away-is : ((row : Row) → Asking rows s row → ⊥) → Look 0 rows s → cs ≡ rowsIn rows (placeOf 0 rows s ++ placesOf rows ss)
-  away-is h (missing p k) = rest ∙ ap (λ (ks : List ℕ). rowsIn rows (ks ++ placesOf rows ss)) (sym p)
-  away-is h (found k p m u) = absurd (h (getD rows k pad) (test-asking rows s (getD rows k pad) m u))
+  pub ordered-is : (ss : List ℕ) (cs : List Row) → Ordered rows ss cs → cs ≡ inOrder rows ss
+  ordered-is [] cs none = refl
+  ordered-is (s ∷ ss) ds (asked {row} {cs} a o) =
+      ap (λ (xs : List Row). row ∷ xs) (ordered-is ss cs o) ∙ ap (λ (xs : List Row). xs ++ inOrder rows ss) (sym (asked-at s row a))
+  ordered-is (s ∷ ss) cs (away h o) = by (look rows s) (ordered-is ss cs o)
+    where
+      by : Look rows s → cs ≡ inOrder rows ss → cs ≡ askingAt rows s ++ inOrder rows ss
+      by (missing p k) rest = rest ∙ ap (λ (xs : List Row). xs ++ inOrder rows ss) (sym p)
+      by (found row p a) rest = absurd (h row a)
 
-pub ordered-is : (rows : List Row) → T (tiled rows) → (ss : List ℕ) (cs : List Row) → Ordered rows ss cs → cs ≡ rowsIn rows (placesOf rows ss)
-ordered-is rows t [] cs none = refl
-ordered-is rows t (s ∷ ss) cs (asked a o) = asked-is rows t s ss _ (ordered-is rows t ss _ o) _ a (look 0 rows s)
-ordered-is rows t (s ∷ ss) cs (away h o) = away-is rows t s ss _ (ordered-is rows t ss _ o) h (look 0 rows s)
+  -- a row that asks something and whose start is in the order is checked
+  checked-row : (row : Row) → List·Memᴰ row rows → T (asks (rowKind row)) → (ss : List ℕ) → T (member (row .start) ss) → List·Memᴰ row (inOrder rows ss)
+  checked-row row m k [] h = absurd h
+  checked-row row m k (s ∷ ss) h = by (eqb (row .start) s) refl h (checked-row row m k ss)
+    where
+      behind : (xs : List Row) → List·Memᴰ row (inOrder rows ss) → List·Memᴰ row (xs ++ inOrder rows ss)
+      behind [] n = n
+      behind (x ∷ xs) n = List·Memᴰ·tail (behind xs n)
+
+      by : (b : Bool) → eqb (row .start) s ≡ b → T (cond b true (member (row .start) ss)) → (T (member (row .start) ss) → List·Memᴰ row (inOrder rows ss))
+          → List·Memᴰ row (askingAt rows s ++ inOrder rows ss)
+      by true e h rest =
+          subst (λ (xs : List Row). List·Memᴰ row (xs ++ inOrder rows ss))
+          (sym (asked-at s row (test-asking rows s row m (both-intro (eqb (row .start) s) (asks (rowKind row)) (is-true e) k)))) (List·Memᴰ·head refl)
+      by false e h rest = behind (askingAt rows s) (rest h)
+
+-- what is checked is one of the rows
+pub checked-among : (rows : List Row) (ss : List ℕ) (row : Row) → List·Memᴰ row (inOrder rows ss) → List·Memᴰ row rows
+checked-among rows [] row m = absurd (List·Memᴰ·not-nil m)
+checked-among rows (s ∷ ss) row m = by (look rows s) (checked-among rows ss row) m
+  where
+    split : {x : Row} → Asking rows s x → (row ≡ x) ⊎ List·Memᴰ row (inOrder rows ss) → (List·Memᴰ row (inOrder rows ss) → List·Memᴰ row rows) → List·Memᴰ row rows
+    split a (inl e) rest = subst (λ (y : Row). List·Memᴰ y rows) (sym e) (a .among)
+    split a (inr k) rest = rest k
+
+    by : Look rows s → (List·Memᴰ row (inOrder rows ss) → List·Memᴰ row rows) → List·Memᴰ row (askingAt rows s ++ inOrder rows ss) → List·Memᴰ row rows
+    by (missing p h) rest m = rest (subst (λ (xs : List Row). List·Memᴰ row (xs ++ inOrder rows ss)) p m)
+    by (found x p a) rest m = split a (List·Memᴰ·cases-cons (subst (λ (xs : List Row). List·Memᴰ row (xs ++ inOrder rows ss)) p m)) rest
+
+-- a row that asks nothing is met
+silent : (v : ℕ) (row : Row) → asks (rowKind row) ≡ false → T (meets v row)
+unfolding meets
+silent v row e = by (rowKind row) e
+  where
+    by : (k : Kind) → asks k ≡ false → T (allows k (row .rule) (valueIn v row))
+    by Free e = tt
+    by (Coded reason) e = absurd (subst T e tt)
+    by Checked e = absurd (subst T e tt)
+    by Unchecked e = tt
+
+-- All rows are met exactly where those that are checked are.
+module _ (v : ℕ) (rows : List Row) (order : List ℕ) where
+  pub checks-pass : T (tiled rows) → T (every (covers order) 0 rows) → Pass v (inOrder rows order) → Pass v rows
+  checks-pass t c p row m = by (asks (rowKind row)) refl (every-mem (covers order) row 0 rows c m .1)
+    where
+      by : (b : Bool) → asks (rowKind row) ≡ b → T (not b || member (row .start) order) → T (meets v row)
+      by true e h = p row (checked-row rows t row m (is-true e) order h)
+      by false e h = silent v row e
+
+  pub pass-checks : Pass v rows → Pass v (inOrder rows order)
+  pass-checks p row m = p row (checked-among rows order row m)

@@ -1,50 +1,23 @@
--- The layout that serves a class is the one that the class table numbers: by one walk of the layouts, since no class is served twice.
+-- The layout that serves a value's class is the one that the decoder looks up, since no class is served twice.
 use mathlib.Core.Path.{_≡_, refl, sym, ap, _∙_, subst}
 use mathlib.Core.Bool.{Bool, true, false, cond}
 use mathlib.Core.List.{List, [], _∷_, List·Memᴰ, List·Memᴰ·head, List·Memᴰ·tail}
-use Prim.Native.Nat.{ℕ, suc, _+_, _≤_, _<_}
+use Prim.Native.Nat.{ℕ, suc, _≤_, _<_}
 use native.Mathlib.Nat.{zero-add}
 use native.Mathlib.Omega.{arith}
 use lib.Dec.{T, eqb, eqb→eq}
-use lib.ListN.{length, getD}
-use Rattle.promise.proofs.Tests.{true-is, is-true, from-at}
+use Rattle.promise.specs.Member.{member}
+use Rattle.promise.proofs.Tests.{true-is, is-true, from-at, member-of, of-member}
 use Rattle.texts.specs.Rules.{className}
 use Rattle.texts.specs.Pool.{says}
-use Rattle.records.specs.Bits.{fieldOf}
+use Rattle.refusals.specs.Refusals.{carrying}
+use Rattle.refusals.specs.declared.Reason.the-variants.{InvalidEc}
 use Rattle.records.proofs.Laws.{field-lt}
-use Rattle.tables.specs.Shape.{Table}
-use Rattle.tables.specs.Layouts.{member}
-use Rattle.tables.specs.Tables.{Served, layouts, tablesOf, tableOf, undivided}
+use Rattle.tables.specs.Tables.{Served, layouts}
 use Rattle.tables.proofs.Sound.{served, classSound, class-sound}
-use Rattle.esr.specs.Decode.{empty, numberIn, layoutNumber}
+use Rattle.esr.specs.Decode.{refused, tableAnswer, classOf, issOf, classAnswer}
 use Rattle.reading.specs.Reading.{Classed}
-use Rattle.reading.proofs.Own.{own-is, own-of}
-use Rattle.reading.proofs.Applies.{member-of, of-member}
-
--- where a list of layouts has the one that serves a class, its number counted from n
-record Found (n : ℕ) (ss : List Served) (c : ℕ) (s : Served) : Type 0 where
-  place : ℕ
-  less : place < length ss
-  number : numberIn n ss c ≡ n + place
-  table : getD (tablesOf ss) place undivided ≡ s .table
-
-first-found : (n : ℕ) (s : Served) (ss : List Served) (c : ℕ) → T (member c (s .classes)) → Found n (s ∷ ss) c s
-first-found n s ss c t =
-    record {
-      place = 0;
-      less = omega arith;
-      number = ap (λ (b : Bool). cond b n (numberIn (suc n) ss c)) (true-is (member c (s .classes)) t) ∙ omega arith;
-      table = refl;
-    }
-
-later-found : (n : ℕ) (x : Served) (ss : List Served) (c : ℕ) (s : Served) → member c (x .classes) ≡ false → Found (suc n) ss c s → Found n (x ∷ ss) c s
-later-found n x ss c s e f =
-    record {
-      place = suc (f .place);
-      less = omega (arith, f .less);
-      number = ap (λ (b : Bool). cond b n (numberIn (suc n) ss c)) e ∙ f .number ∙ omega arith;
-      table = f .table;
-    }
+use Rattle.reading.proofs.HasBits.{bits-is, bits-of}
 
 -- a layout of the list that serves the class is counted
 counted : (c : ℕ) (s : Served) (ss : List Served) → List·Memᴰ s ss → T (member c (s .classes)) → 1 ≤ served ss c
@@ -57,89 +30,69 @@ counted c s (x ∷ xs) (List·Memᴰ·tail m) t = by (member c (x .classes)) (co
     by true h = omega arith
     by false h = h
 
--- one that is served no more than once is found
-found : (n c : ℕ) (s : Served) (ss : List Served) → List·Memᴰ s ss → T (member c (s .classes)) → served ss c ≤ 1 → Found n ss c s
-found n c s (x ∷ xs) (List·Memᴰ·head e) t h =
-    subst (Found n (x ∷ xs) c) (sym e) (first-found n x xs c (subst (λ (y : Served). T (member c (y .classes))) e t))
-found n c s (x ∷ xs) (List·Memᴰ·tail m) t h = by (member c (x .classes)) refl h (counted c s xs m t) (found (suc n) c s xs m t)
-  where
-    by : (b : Bool) → member c (x .classes) ≡ b → cond b (suc (served xs c)) (served xs c) ≤ 1 → 1 ≤ served xs c
-        → (served xs c ≤ 1 → Found (suc n) xs c s) → Found n (x ∷ xs) c s
-    by true e k one rest = absurd (omega arith)
-    by false e k one rest = later-found n x xs c s e (rest k)
+-- what the decoder looks up in a list of layouts: one of them that serves the class, and its table answers; or none does
+pub data Looked (esr : ℕ) (ss : List Served) : Type 0 where
+  none : served ss (classOf esr) ≡ 0 → classAnswer ss esr ≡ refused (carrying InvalidEc (classOf esr)) → Looked esr ss
+  one : (s : Served) → List·Memᴰ s ss → T (member (classOf esr) (s .classes)) → classAnswer ss esr ≡ tableAnswer (s .table) esr (issOf esr) → Looked esr ss
 
--- a class that has a number is served
-pub record Serving (ss : List Served) (c : ℕ) : Type 0 where
-  pub which : Served
-  pub layout : List·Memᴰ which ss
-  pub serves : T (member c (which .classes))
-
-serving : (n c : ℕ) (ss : List Served) → (numberIn n ss c ≡ empty → ⊥) → Serving ss c
-serving n c [] h = absurd (h refl)
-serving n c (x ∷ xs) h = by (member c (x .classes)) refl h (serving (suc n) c xs)
+looked : (esr : ℕ) (ss : List Served) → Looked esr ss
+unfolding classAnswer
+looked esr [] = none refl refl
+looked esr (s ∷ ss) = by (member (classOf esr) (s .classes)) refl (looked esr ss)
   where
-    by : (b : Bool) → member c (x .classes) ≡ b → (cond b n (numberIn (suc n) xs c) ≡ empty → ⊥)
-        → ((numberIn (suc n) xs c ≡ empty → ⊥) → Serving xs c) → Serving (x ∷ xs) c
-    by true e k rest = record { which = x; layout = List·Memᴰ·head refl; serves = is-true e }
-    by false e k rest = record { which = rest k .which; layout = List·Memᴰ·tail (rest k .layout); serves = rest k .serves }
+    answer : (b : Bool) → member (classOf esr) (s .classes) ≡ b → classAnswer (s ∷ ss) esr ≡ cond b (tableAnswer (s .table) esr (issOf esr)) (classAnswer ss esr)
+    answer b e = ap (λ (c : Bool). cond c (tableAnswer (s .table) esr (issOf esr)) (classAnswer ss esr)) e
 
--- a class that is counted is served
-counted-serving : (c : ℕ) (ss : List Served) → 1 ≤ served ss c → Serving ss c
-counted-serving c [] h = absurd (omega arith)
-counted-serving c (x ∷ xs) h = by (member c (x .classes)) refl h (counted-serving c xs)
+    count : (b : Bool) → member (classOf esr) (s .classes) ≡ b → served (s ∷ ss) (classOf esr) ≡ cond b (suc (served ss (classOf esr))) (served ss (classOf esr))
+    count b e = ap (λ (c : Bool). cond c (suc (served ss (classOf esr))) (served ss (classOf esr))) e
+
+    by : (b : Bool) → member (classOf esr) (s .classes) ≡ b → Looked esr ss → Looked esr (s ∷ ss)
+    by true e rest = one s (List·Memᴰ·head refl) (is-true e) (answer true e)
+    by false e (none n q) = none (count false e ∙ n) (answer false e ∙ q)
+    by false e (one x m t q) = one x (List·Memᴰ·tail m) t (answer false e ∙ q)
+
+-- no two layouts of a list in which the class is served once serve it
+one-served : (c : ℕ) (a b : Served) (ss : List Served) → served ss c ≤ 1 → List·Memᴰ a ss → List·Memᴰ b ss → T (member c (a .classes)) → T (member c (b .classes)) → a ≡ b
+one-served c a b (x ∷ xs) h (List·Memᴰ·head p) (List·Memᴰ·head q) s t = p ∙ sym q
+one-served c a b (x ∷ xs) h (List·Memᴰ·head p) (List·Memᴰ·tail n) s t =
+    absurd (omega (arith, counted c b xs n t, subst (λ (k : Bool). cond k (suc (served xs c)) (served xs c) ≤ 1) (true-is (member c (x .classes)) (subst (λ (y : Served). T (member c (y .classes))) p s)) h))
+one-served c a b (x ∷ xs) h (List·Memᴰ·tail m) (List·Memᴰ·head q) s t =
+    absurd (omega (arith, counted c a xs m s, subst (λ (k : Bool). cond k (suc (served xs c)) (served xs c) ≤ 1) (true-is (member c (x .classes)) (subst (λ (y : Served). T (member c (y .classes))) q t)) h))
+one-served c a b (x ∷ xs) h (List·Memᴰ·tail m) (List·Memᴰ·tail n) s t = one-served c a b xs (by (member c (x .classes)) h) m n s t
   where
-    by : (b : Bool) → member c (x .classes) ≡ b → 1 ≤ cond b (suc (served xs c)) (served xs c) → (1 ≤ served xs c → Serving xs c) → Serving (x ∷ xs) c
-    by true e k rest = record { which = x; layout = List·Memᴰ·head refl; serves = is-true e }
-    by false e k rest = record { which = rest k .which; layout = List·Memᴰ·tail (rest k .layout); serves = rest k .serves }
+    by : (k : Bool) → cond k (suc (served xs c)) (served xs c) ≤ 1 → served xs c ≤ 1
+    by true h = omega arith
+    by false h = h
 
 -- what the computed test of the classes says of one class
-sound-at : (c : ℕ) → c < 64 → T (classSound c)
-sound-at c h = subst (λ (n : ℕ). T (classSound n)) (zero-add c) (from-at classSound 0 64 c class-sound h)
-
 named : (a : Bool) (n : ℕ) → T (cond a (eqb n 1) (eqb n 0)) → (n ≤ 1) × (1 ≤ n → T a) × (T a → 1 ≤ n)
 named true n t = let e : n ≡ 1 = eqb→eq n 1 t in (omega arith, λ h. tt, λ h. omega arith)
 named false n t = let e : n ≡ 0 = eqb→eq n 0 t in (omega arith, λ h. absurd (omega arith), λ h. absurd h)
 
-nineteen : length layouts ≡ 19
-unfolding layouts
-nineteen = refl
+-- A value's class is served by one layout of 01, and then it has a name, and the decoder's answer is that layout's; or no layout serves it, it has
+-- no name, and the decoder refuses it.
+pub data ClassOf (esr : ℕ) : Type 0 where
+  unserved : ((s : Served) → Classed esr s → ⊥) → (T (says (className .number) (classOf esr)) → ⊥)
+      → classAnswer layouts esr ≡ refused (carrying InvalidEc (classOf esr)) → ClassOf esr
+  servedBy : (s : Served) → Classed esr s → ((t : Served) → Classed esr t → t ≡ s) → T (says (className .number) (classOf esr))
+      → classAnswer layouts esr ≡ tableAnswer (s .table) esr (issOf esr) → ClassOf esr
 
--- A layout serves the value's class: then the class table has its number, the class has a name.
-pub record Numbered (v : ℕ) (t : Table) : Type 0 where
-  pub filled : layoutNumber (fieldOf v 26 6) ≡ empty → ⊥
-  pub table : tableOf (layoutNumber (fieldOf v 26 6)) ≡ t
-  pub named : T (says (className .number) (fieldOf v 26 6))
+module _ (esr : ℕ) where
+  sound-at : (served layouts (classOf esr) ≤ 1) × (1 ≤ served layouts (classOf esr) → T (says (className .number) (classOf esr))) × (T (says (className .number) (classOf esr)) → 1 ≤ served layouts (classOf esr))
+  sound-at =
+      named (says (className .number) (classOf esr)) (served layouts (classOf esr))
+      (subst (λ (n : ℕ). T (classSound n)) (zero-add (classOf esr)) (from-at classSound 0 64 (classOf esr) class-sound (field-lt esr 26 6)))
 
-module _ (v : ℕ) where
-  pub classed-is : (s : Served) → Classed v s → Numbered v (s .table)
-  unfolding layoutNumber tableOf
-  classed-is s k =
-      let c : ℕ = fieldOf v 26 6 in
-      let m : T (member c (s .classes)) = subst (λ (n : ℕ). T (member n (s .classes))) (own-is (k .own)) (member-of (k .class) (s .classes) (k .serves)) in
-      let n : (served layouts c ≤ 1) × (1 ≤ served layouts c → T (says (className .number) c)) × (T (says (className .number) c) → 1 ≤ served layouts c) = named (says (className .number) c) (served layouts c) (sound-at c (field-lt v 26 6)) in
-      let f : Found 0 layouts c s = found 0 c s layouts (k .layout) m (n .0) in
-      record {
-        filled = λ e. omega (arith, f .number, f .less, nineteen);
-        table = ap (λ (i : ℕ). getD (tablesOf layouts) i undivided) (f .number ∙ zero-add (f .place)) ∙ f .table;
-        named = n .1 (counted c s layouts (k .layout) m);
-      }
+  serves : (s : Served) → Classed esr s → T (member (classOf esr) (s .classes))
+  serves s k = subst (λ (n : ℕ). T (member n (s .classes))) (bits-is (k .has)) (member-of (k .class) (s .classes) (k .serves))
 
-  -- a class that has a number is served by the layout of that number
-  pub classed-of : (layoutNumber (fieldOf v 26 6) ≡ empty → ⊥) → Serving layouts (fieldOf v 26 6)
-  unfolding layoutNumber
-  classed-of h = serving 0 (fieldOf v 26 6) layouts h
-
-  pub serving-classed : (s : Serving layouts (fieldOf v 26 6)) → Classed v (s .which)
-  serving-classed s =
-      record {
-        class = fieldOf v 26 6;
-        own = own-of v 26 6;
-        serves = of-member (fieldOf v 26 6) (s .which .classes) (s .serves);
-        layout = s .layout;
-      }
-
-  -- a class that has a name is served
-  pub named-serving : T (says (className .number) (fieldOf v 26 6)) → Serving layouts (fieldOf v 26 6)
-  named-serving t =
-      let c : ℕ = fieldOf v 26 6 in
-      counted-serving c layouts (named (says (className .number) c) (served layouts c) (sound-at c (field-lt v 26 6)) .2 t)
+  pub class-of : ClassOf esr
+  class-of = by (looked esr layouts)
+    where
+      by : Looked esr layouts → ClassOf esr
+      by (none n q) =
+          unserved (λ s k. omega (arith, counted (classOf esr) s layouts (k .layout) (serves s k), n)) (λ t. omega (arith, sound-at .2 t, n)) q
+      by (one s m t q) =
+          servedBy s (record { class = classOf esr; has = bits-of esr 26 6; serves = of-member (classOf esr) (s .classes) t; layout = m })
+          (λ x k. one-served (classOf esr) x s layouts (sound-at .0) (k .layout) m (serves x k) t)
+          (sound-at .1 (counted (classOf esr) s layouts m t)) q

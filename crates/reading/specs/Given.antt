@@ -1,17 +1,20 @@
--- 01's table of refusals, "given when" and "carries", in plain bits: what is so of a value that is refused by the number n, carrying c.
+-- 01's table of refusals, "given when" and "carries", in plain bits: what is so of a value that is refused by f.
 use Prim.Native.Nat.{ℕ, _<_}
 use mathlib.Core.List.{List, [], _∷_, List·Memᴰ}
 use mathlib.Core.Path.{_≡_}
 use Rattle.texts.specs.Rules.{debugStatus, faultStatus, serrorStatus}
-use Rattle.records.specs.Rows.{rowStart, rowWidth, rowKind, checked}
+use Rattle.refusals.specs.declared.Reason.the-variants.{InvalidRes0, InvalidEc, InvalidFsc, InvalidSet, InvalidAet, InvalidAm, InvalidLd64bIss, Unreached}
+use Rattle.refusals.specs.declared.Refusal.{Refusal}
+use Rattle.records.specs.Kinds.{Checked}
+use Rattle.records.specs.Rows.{rowKind}
 use Rattle.records.specs.declared.Row.{Row}
 use Rattle.tables.specs.Tables.{reserved, Served}
-use Rattle.reading.specs.Reading.{Own, Applying, Listed, Classed}
+use Rattle.reading.specs.Reading.{HasBits, Applying, Listed, Classed}
 
 -- the class of a value is one of these
 pub record ClassIn (v : ℕ) (classes : List ℕ) : Type 0 where
   pub class : ℕ
-  pub own : Own v 26 6 class
+  pub has : HasBits v 26 6 class
   pub among : List·Memᴰ class classes
 
 -- a row by which a value is read: the top one, RES0 37..64, or one of its class's layout that applies to it
@@ -23,8 +26,8 @@ pub data RowOf (v : ℕ) (row : Row) : Type 0 where
 pub record Reserved (v c : ℕ) : Type 0 where
   pub row : Row
   pub of : RowOf v row
-  pub kind : rowKind row ≡ checked
-  pub own : Own v (rowStart row) (rowWidth row) c
+  pub kind : rowKind row ≡ Checked
+  pub has : HasBits v (row .start) (row .width) c
 
 -- the abort classes, and those of the three debug layouts
 abbrev pub aborts : List ℕ
@@ -37,25 +40,25 @@ debugs = 0x30 ∷ 0x31 ∷ 0x32 ∷ 0x33 ∷ 0x34 ∷ 0x35 ∷ []
 pub data NoStatus (v c : ℕ) : Type 0 where
   ofAbort : ClassIn v aborts → (Listed (faultStatus .number) c → ⊥) → NoStatus v c
   ofDebug : ClassIn v debugs → (Listed (debugStatus .number) c → ⊥) → NoStatus v c
-  ofSError : ClassIn v (0x2F ∷ []) → Own v 24 1 0 → (Listed (serrorStatus .number) c → ⊥) → NoStatus v c
+  ofSError : ClassIn v (0x2F ∷ []) → HasBits v 24 1 0 → (Listed (serrorStatus .number) c → ⊥) → NoStatus v c
 
 -- "where AET is read": of an SError with bit 24 at 0, and behind its status, which is on its list
 pub record AetRead (v : ℕ) : Type 0 where
   pub serror : ClassIn v (0x2F ∷ [])
-  pub clear : Own v 24 1 0
+  pub clear : HasBits v 24 1 0
   pub status : ℕ
-  pub own : Own v 0 6 status
+  pub has : HasBits v 0 6 status
   pub listed : Listed (serrorStatus .number) status
 
 -- 1: "a checked reserved field isn't 0". 2: "class not tabulated". 3: "a status that is read isn't on its list". 4: "status 0x10 in an abort
 -- class and SET = 1". 5: "AET 4, 5 or 7 where AET is read". 6: "AM 5 or 7". 7: "class 0x0A, ISS above 2". 17: "SAS or TI above 3", which two
 -- bits never hold.
-pub record GivenWhen (v n c : ℕ) : Type 0 where
-  pub invalidRes0 : n ≡ 1 → Reserved v c × (c ≡ 0 → ⊥)
-  pub invalidEc : n ≡ 2 → Own v 26 6 c × ((s : Served) → Classed v s → ⊥)
-  pub invalidFsc : n ≡ 3 → Own v 0 6 c × NoStatus v c
-  pub invalidSet : n ≡ 4 → Own v 11 2 c × (c ≡ 1) × Own v 0 6 0x10 × ClassIn v aborts
-  pub invalidAet : n ≡ 5 → Own v 10 3 c × List·Memᴰ c (4 ∷ 5 ∷ 7 ∷ []) × AetRead v
-  pub invalidAm : n ≡ 6 → Own v 1 3 c × List·Memᴰ c (5 ∷ 7 ∷ []) × ClassIn v (0x06 ∷ [])
-  pub invalidLd64bIss : n ≡ 7 → Own v 0 25 c × (2 < c) × ClassIn v (0x0A ∷ [])
-  pub unreached : n ≡ 17 → ⊥
+pub record GivenWhen (v : ℕ) (f : Refusal) : Type 0 where
+  pub invalidRes0 : f .reason ≡ InvalidRes0 → Reserved v (f .carries) × (f .carries ≡ 0 → ⊥)
+  pub invalidEc : f .reason ≡ InvalidEc → HasBits v 26 6 (f .carries) × ((s : Served) → Classed v s → ⊥)
+  pub invalidFsc : f .reason ≡ InvalidFsc → HasBits v 0 6 (f .carries) × NoStatus v (f .carries)
+  pub invalidSet : f .reason ≡ InvalidSet → HasBits v 11 2 (f .carries) × (f .carries ≡ 1) × HasBits v 0 6 0x10 × ClassIn v aborts
+  pub invalidAet : f .reason ≡ InvalidAet → HasBits v 10 3 (f .carries) × List·Memᴰ (f .carries) (4 ∷ 5 ∷ 7 ∷ []) × AetRead v
+  pub invalidAm : f .reason ≡ InvalidAm → HasBits v 1 3 (f .carries) × List·Memᴰ (f .carries) (5 ∷ 7 ∷ []) × ClassIn v (0x06 ∷ [])
+  pub invalidLd64bIss : f .reason ≡ InvalidLd64bIss → HasBits v 0 25 (f .carries) × (2 < f .carries) × ClassIn v (0x0A ∷ [])
+  pub unreached : f .reason ≡ Unreached → ⊥

@@ -13,7 +13,7 @@ use Rattle.records.specs.declared.Records.{Records}
 unfoldable pub leavesIn : List Record → List Record
 leavesIn l = take 4 l ++ cond (ltb 5 (length l)) (drop 5 l) (drop 4 l)
 
--- the leaves by their places in a set; a count past the set's room counts all its places
+-- the leaves of the records that a set counts; a count past the set's room counts all that it holds
 unfoldable pub leaves : Records → List Record
 leaves s = leavesIn (listOf s)
 
@@ -22,7 +22,7 @@ pub data Tile : ℕ → List Record → Type 0 where
   done : Tile 0 []
   next : {top : ℕ} {x : Record} {xs : List Record} → x .start + x .width ≡ top → 1 ≤ x .width → Tile (x .start) xs → Tile top (x ∷ xs)
 
--- a field shifted back to its place; one that does not lie within 64 bits adds nothing
+-- a field shifted back to its bits; one that does not lie within 64 bits adds nothing
 abbrev pub lies : Record → Bool
 lies x = leb 1 (x .width) && leb (x .start + x .width) 64
 

@@ -1,12 +1,17 @@
--- When a value is refused, and by which number: "First 37..64 must be 0, then the class is looked up, then the layout's checks in the order
--- given; the first failure answers." Said of the value's bits, as a reading is.
+-- When a value is refused, and how: "First 37..64 must be 0, then the class is looked up, then the layout's checks in the order given; the
+-- first failure answers." Said of the value's bits, as a reading is.
 use Prim.Native.Nat.{ℕ}
 use mathlib.Core.List.{List, [], _∷_, List·Memᴰ}
 use mathlib.Core.Path.{_≡_}
-use Rattle.records.specs.Rows.{rowStart, rowWidth, rowRule, rowKind, free, checked, unchecked}
+use Rattle.refusals.specs.declared.Reason.{Reason}
+use Rattle.refusals.specs.declared.Reason.the-variants.{InvalidRes0}
+use Rattle.refusals.specs.declared.Refusal.{Refusal}
+use Rattle.records.specs.Kinds.{Kind}
+use Rattle.records.specs.Kinds.{Coded, Checked}
+use Rattle.records.specs.Rows.{rowKind}
 use Rattle.records.specs.declared.Row.{Row}
 use Rattle.tables.specs.Tables.{reserved, class, Served}
-use Rattle.reading.specs.Reading.{Own, Applying, Listed, Coded, Allowed, Classed}
+use Rattle.reading.specs.Reading.{HasBits, Applying, Listed, Allowed, Classed}
 
 -- the numbers that a value can be refused by: 1 to 7, and 17
 abbrev pub refusing : List ℕ
@@ -15,21 +20,25 @@ refusing = 1 ∷ 2 ∷ 3 ∷ 4 ∷ 5 ∷ 6 ∷ 7 ∷ 17 ∷ []
 -- a row's field of a value is as the row asks
 pub record Met (v : ℕ) (row : Row) : Type 0 where
   pub value : ℕ
-  pub own : Own v (rowStart row) (rowWidth row) value
-  pub allowed : Allowed row value
+  pub has : HasBits v (row .start) (row .width) value
+  pub allowed : Allowed (rowKind row) (row .rule) value
 
--- it is not, and is refused by a number that carries it: "1, a checked reserved field isn't 0"; the others, a coded field is not on its
--- list, by the number that the row names
-pub data Unmet (v : ℕ) (row : Row) (n c : ℕ) : Type 0 where
-  notZero : Own v (rowStart row) (rowWidth row) c → rowKind row ≡ checked → n ≡ 1 → (c ≡ 0 → ⊥) → Unmet v row n c
-  notListed : Own v (rowStart row) (rowWidth row) c → Coded (rowKind row) → n ≡ rowKind row → (Listed (rowRule row) c → ⊥) → Unmet v row n c
+-- it is not, and the refusal carries it: "1, a checked reserved field isn't 0"; the others, a coded field is not on its list, for the reason
+-- that the row names
+pub data Unmet (v : ℕ) (row : Row) (f : Refusal) : Type 0 where
+  notZero : HasBits v (row .start) (row .width) (f .carries) → rowKind row ≡ Checked → f .reason ≡ InvalidRes0 → (f .carries ≡ 0 → ⊥) → Unmet v row f
+  notListed : HasBits v (row .start) (row .width) (f .carries) → rowKind row ≡ Coded (f .reason) → (Listed (row .rule) (f .carries) → ⊥) → Unmet v row f
+
+-- a kind that asks something
+pub data Asks : Kind → Type 0 where
+  coded : {reason : Reason} → Asks (Coded reason)
+  checked : Asks Checked
 
 -- a row of those that apply which starts at s and asks something
 pub record Asking (rows : List Row) (s : ℕ) (row : Row) : Type 0 where
   pub among : List·Memᴰ row rows
-  pub starts : rowStart row ≡ s
-  pub notFree : rowKind row ≡ free → ⊥
-  pub notUnchecked : rowKind row ≡ unchecked → ⊥
+  pub starts : row .start ≡ s
+  pub asks : Asks (rowKind row)
 
 -- the rows that ask something, in the order of their starts that the table gives; a start without such a row has no check
 pub data Ordered (rows : List Row) : List ℕ → List Row → Type 0 where
@@ -44,12 +53,12 @@ pub data Checks (v : ℕ) : List Row → Type 0 where
       → Checks v (reserved ∷ class ∷ cs)
 
 -- the first failure
-pub data First (v n c : ℕ) : List Row → Type 0 where
-  here : {row : Row} {rows : List Row} → Unmet v row n c → First v n c (row ∷ rows)
-  later : {row : Row} {rows : List Row} → Met v row → First v n c rows → First v n c (row ∷ rows)
+pub data First (v : ℕ) (f : Refusal) : List Row → Type 0 where
+  here : {row : Row} {rows : List Row} → Unmet v row f → First v f (row ∷ rows)
+  later : {row : Row} {rows : List Row} → Met v row → First v f rows → First v f (row ∷ rows)
 
--- a value is refused by a number that carries c
-pub record Refusing (v n c : ℕ) : Type 0 where
+-- a value is refused by f
+pub record Refusing (v : ℕ) (f : Refusal) : Type 0 where
   pub checks : List Row
   pub order : Checks v checks
-  pub first : First v n c checks
+  pub first : First v f checks

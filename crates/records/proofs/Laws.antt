@@ -1,24 +1,20 @@
--- Laws of the vocabulary, which the crates above cite: fields and their bounds, refusals by number, sets as lists.
-use mathlib.Core.Path.{_≡_, refl, sym, ap, ap₂, _∙_, subst}
-use mathlib.Core.Bool.{Bool, cond}
+-- Laws of the vocabulary, which the crates above cite: fields and their bounds, sets as lists.
+use mathlib.Core.Path.{_≡_, refl, sym, ap, ap₂, _∙_}
+use mathlib.Core.Bool.{cond}
 use mathlib.Core.List.{List, [], _∷_, _++_, map, append-assoc, append-nil}
 use Prim.Native.Nat.{ℕ, suc, _+_, _-_, _*_, _/_, _%_, _^_, _≤_, _<_}
-use native.Mathlib.Nat.{one-mul, mod-lt, mod-eq-of-lt, zero-mod, div-eq-of-lt, zero-add, lt-of-lt-of-le, lt-of-le-of-lt}
+use native.Mathlib.Nat.{one-mul, mod-lt, mod-eq-of-lt, zero-mod, div-eq-of-lt, lt-of-lt-of-le, lt-of-le-of-lt}
 use native.Mathlib.Omega.{arith}
 use lib.Bits.{bitAnd, and-mask}
-use lib.Dec.{T, eqb, ltb, eqb→eq}
+use lib.Dec.{ltb}
 use lib.ListN.{length, replicate, set, length-append, length-map}
 use lib.Pow.{pow-pos, pow-mono, pow-lt, shr-le}
 use lib.Seq.{set-append-seam, take-append-seam}
 use borrow.Author.Tests.{lt-ltb}
-use Rattle.promise.proofs.Tests.{from, from-at}
 use Rattle.records.specs.Bits.{fieldOf}
-use Rattle.records.specs.Refusals.{refusalNumber, refusalCarries, refusalBy}
 use Rattle.records.specs.Sets.{setRoom, noRecord, recordsOf, listOf}
 use Rattle.records.specs.declared.Record.{Record}
 use Rattle.records.specs.declared.Records.{Records}
-use Rattle.records.specs.declared.Refusal.{Refusal}
-use Rattle.records.specs.declared.Refusal.the-variants.{None, InvalidRes0, InvalidEc, InvalidFsc, InvalidSet, InvalidAet, InvalidAm, InvalidLd64bIss, Empty, InvalidDigit, PosOverflow, ShortBuffer, BadField, BadIndex, ShortEntry, BadLength, BadVersion, Unreached}
 
 -- Fields.
 
@@ -49,47 +45,6 @@ field-lt v start width = mod-lt (v / 2 ^ start) (pow-pos width)
 -- the assertion of the Rust's as_bit: a row of width 1 holds 0 or 1
 pub one-bit : (v place : ℕ) → (fieldOf v place 1 ≡ 0 → ⊥) → fieldOf v place 1 ≡ 1
 one-bit v place h = omega (arith, field-lt v place 1)
-
--- Refusals.
-
--- a refusal is its number and what it carries
-pub by-number : (f : Refusal) → refusalBy (refusalNumber f) (refusalCarries f) ≡ f
-unfolding refusalBy
-by-number None = refl
-by-number (InvalidRes0 c) = refl
-by-number (InvalidEc c) = refl
-by-number (InvalidFsc c) = refl
-by-number (InvalidSet c) = refl
-by-number (InvalidAet c) = refl
-by-number (InvalidAm c) = refl
-by-number (InvalidLd64bIss c) = refl
-by-number Empty = refl
-by-number InvalidDigit = refl
-by-number PosOverflow = refl
-by-number (ShortBuffer c) = refl
-by-number BadField = refl
-by-number (BadIndex c) = refl
-by-number ShortEntry = refl
-by-number BadLength = refl
-by-number BadVersion = refl
-by-number (Unreached c) = refl
-
--- the number 0 is that of no refusal
-pub no-refusal : (f : Refusal) → refusalNumber f ≡ 0 → f ≡ None
-unfolding refusalBy
-no-refusal f e = sym (by-number f) ∙ ap (λ n. refusalBy n (refusalCarries f)) e
-
--- each of the numbers 0 to 17 is that of its refusal, whatever it carries
-abbrev numbered : ℕ → ℕ → Bool
-numbered c n = eqb (refusalNumber (refusalBy n c)) n
-
-all-numbered : (c : ℕ) → T (from (numbered c) 0 18)
-unfolding refusalBy
-all-numbered c = tt
-
-pub number-by : (n c : ℕ) → n < 18 → refusalNumber (refusalBy n c) ≡ n
-number-by n c h =
-    eqb→eq (refusalNumber (refusalBy n c)) n (subst (λ m. T (numbered c m)) (zero-add n) (from-at (numbered c) 0 18 n (all-numbered c) h))
 
 -- Sets.
 

@@ -1,5 +1,5 @@
 pub mod Bits
-pub mod Refusals
+pub mod Kinds
 pub mod Rows
 pub mod Sets
 pub mod Promises

@@ -5,12 +5,11 @@ use mathlib.Core.List.{[]}
 use mathlib.Core.Path.{_≡_}
 use lib.Dec.{eqb}
 use Rattle.records.specs.Bits.{fieldOf}
-use Rattle.records.specs.Refusals.{refusalNumber, refusalCarries, refusalBy}
-use Rattle.records.specs.Rows.{recordOf, checkOf}
+use Rattle.refusals.specs.declared.Refusal.{Refusal}
+use Rattle.records.specs.Rows.{recordOf, meets, refusalOf}
 use Rattle.records.specs.Sets.{recordsOf, recordAt}
 use Rattle.records.specs.declared.Record.{Record}
 use Rattle.records.specs.declared.Records.{Records}
-use Rattle.records.specs.declared.Refusal.{Refusal}
 use Rattle.records.specs.declared.Row.{Row}
 
 -- any start and width: bits past 63 are 0, and so is a field of no width
@@ -20,20 +19,15 @@ Field (v, start, width) r = r ≡ fieldOf v start width
 abbrev pub AsBit : ℕ × ℕ → Bool → Type 0
 AsBit (v, place) r = r ≡ eqb (fieldOf v place 1) 1
 
-abbrev pub Number : Refusal → ℕ → Type 0
-Number refusal r = r ≡ refusalNumber refusal
-
-abbrev pub Carries : Refusal → ℕ → Type 0
-Carries refusal r = r ≡ refusalCarries refusal
-
-abbrev pub Numbered : ℕ × ℕ → Refusal → Type 0
-Numbered (number, carried) r = r ≡ refusalBy number carried
-
 abbrev pub Got : Row × ℕ → Record → Type 0
 Got (row, v) r = r ≡ recordOf v row
 
-abbrev pub Checked : Row × ℕ → Refusal → Type 0
-Checked (row, v) r = r ≡ checkOf v row
+-- whether a row's field of a value is as the row asks, and what the row answers where it is not
+abbrev pub Meets : Row × ℕ → Bool → Type 0
+Meets (row, v) r = r ≡ meets v row
+
+abbrev pub Refused : Row × ℕ → Refusal → Type 0
+Refused (row, v) r = r ≡ refusalOf v row
 
 abbrev pub Emptied : Unit {0} → Records → Type 0
 Emptied i r = r ≡ recordsOf []

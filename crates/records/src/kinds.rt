@@ -1,20 +1,22 @@
-// What is asked of a row's field. A coded row's kind is the number of the refusal that it gets where its text rule does not list it.
+// The kinds of rows by name: their places in the list of specs/Kinds.antt. From EC to LAST they are coded.
 pub const FREE: u8 = 0;
 
-pub const CHECKED: u8 = 1;
+pub const UNCHECKED: u8 = 1;
 
-pub const EC: u8 = 2;
+pub const CHECKED: u8 = 2;
 
-pub const FSC: u8 = 3;
+pub const EC: u8 = 3;
 
-pub const SET: u8 = 4;
+pub const FSC: u8 = 4;
 
-pub const AET: u8 = 5;
+pub const SET: u8 = 5;
 
-pub const AM: u8 = 6;
+pub const AET: u8 = 6;
 
-pub const LD64B_ISS: u8 = 7;
+pub const AM: u8 = 7;
 
-pub const UNREACHED: u8 = 17;
+pub const LD64B_ISS: u8 = 8;
 
-pub const UNCHECKED: u8 = 255;
+pub const UNREACHED: u8 = 9;
+
+pub const LAST: u8 = UNREACHED;

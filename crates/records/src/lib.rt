@@ -1,7 +1,10 @@
-// The vocabulary of a reading: fields of a value, rows, records and sets of them, refusals.
-ghost use Rattle.records.specs.Promises.{AsBit, At, Carries, Checked, Emptied, Field, Got, Number, Numbered};
+// The vocabulary of a reading: fields of a value, rows, records and sets of them.
+ghost use Rattle.records.specs.Promises.{AsBit, At, Emptied, Field, Got, Meets, Refused};
+ghost use Rattle.records.specs.Kinds.{kindOf, reasonOf};
 ghost use Rattle.records.specs.Sets.{noRecord};
 ghost use mathlib.Core.Path.{_≡_};
+use refusals::Reason;
+use refusals::Refusal;
 
 pub mod kinds;
 
@@ -25,110 +28,34 @@ pub fn as_bit(v: u64, place: u8) -> bool
     field(v, place, 1) == 1
 }
 
-// 01's refusals, in the order of their numbers, each with what it carries.
-pub enum Refusal {
-    None,
-    InvalidRes0(u64),
-    InvalidEc(u64),
-    InvalidFsc(u64),
-    InvalidSet(u64),
-    InvalidAet(u64),
-    InvalidAm(u64),
-    InvalidLd64bIss(u64),
-    Empty,
-    InvalidDigit,
-    PosOverflow,
-    ShortBuffer(u64),
-    BadField,
-    BadIndex(u64),
-    ShortEntry,
-    BadLength,
-    BadVersion,
-    Unreached(u64),
-}
-
-impl Refusal {
-    pub fn number(self) -> u8
-        ensures { λ r. ⌜ Number self r ⌝ }
-    {
-        match self {
-            Refusal::None => 0,
-            Refusal::InvalidRes0(_) => 1,
-            Refusal::InvalidEc(_) => 2,
-            Refusal::InvalidFsc(_) => 3,
-            Refusal::InvalidSet(_) => 4,
-            Refusal::InvalidAet(_) => 5,
-            Refusal::InvalidAm(_) => 6,
-            Refusal::InvalidLd64bIss(_) => 7,
-            Refusal::Empty => 8,
-            Refusal::InvalidDigit => 9,
-            Refusal::PosOverflow => 10,
-            Refusal::ShortBuffer(_) => 11,
-            Refusal::BadField => 12,
-            Refusal::BadIndex(_) => 13,
-            Refusal::ShortEntry => 14,
-            Refusal::BadLength => 15,
-            Refusal::BadVersion => 16,
-            Refusal::Unreached(_) => 17,
-        }
-    }
-
-    pub fn carries(self) -> u64
-        ensures { λ r. ⌜ Carries self r ⌝ }
-    {
-        match self {
-            Refusal::None => 0,
-            Refusal::InvalidRes0(value) => value,
-            Refusal::InvalidEc(class) => class,
-            Refusal::InvalidFsc(status) => status,
-            Refusal::InvalidSet(set) => set,
-            Refusal::InvalidAet(aet) => aet,
-            Refusal::InvalidAm(am) => am,
-            Refusal::InvalidLd64bIss(iss) => iss,
-            Refusal::Empty => 0,
-            Refusal::InvalidDigit => 0,
-            Refusal::PosOverflow => 0,
-            Refusal::ShortBuffer(needed) => needed,
-            Refusal::BadField => 0,
-            Refusal::BadIndex(count) => count,
-            Refusal::ShortEntry => 0,
-            Refusal::BadLength => 0,
-            Refusal::BadVersion => 0,
-            Refusal::Unreached(number) => number,
-        }
-    }
-
-    // The refusal of a number, with what it carries; a number of no refusal gives None.
-    pub fn numbered(number: u8, carried: u64) -> Self
-        ensures { λ r. ⌜ Numbered (number, carried) r ⌝ }
-    {
-        match number {
-            1 => Refusal::InvalidRes0(carried),
-            2 => Refusal::InvalidEc(carried),
-            3 => Refusal::InvalidFsc(carried),
-            4 => Refusal::InvalidSet(carried),
-            5 => Refusal::InvalidAet(carried),
-            6 => Refusal::InvalidAm(carried),
-            7 => Refusal::InvalidLd64bIss(carried),
-            8 => Refusal::Empty,
-            9 => Refusal::InvalidDigit,
-            10 => Refusal::PosOverflow,
-            11 => Refusal::ShortBuffer(carried),
-            12 => Refusal::BadField,
-            13 => Refusal::BadIndex(carried),
-            14 => Refusal::ShortEntry,
-            15 => Refusal::BadLength,
-            16 => Refusal::BadVersion,
-            17 => Refusal::Unreached(carried),
-            _ => Refusal::None,
-        }
+// The reason by which a kind of row refuses; one that asks nothing has none.
+fn reason_of(kind: u8) -> Reason
+    ensures { λ r. ⌜ r ≡ reasonOf (kindOf kind) ⌝ }
+{
+    match kind {
+        kinds::CHECKED => Reason::InvalidRes0,
+        kinds::EC => Reason::InvalidEc,
+        kinds::FSC => Reason::InvalidFsc,
+        kinds::SET => Reason::InvalidSet,
+        kinds::AET => Reason::InvalidAet,
+        kinds::AM => Reason::InvalidAm,
+        kinds::LD64B_ISS => Reason::InvalidLd64bIss,
+        kinds::UNREACHED => Reason::Unreached,
+        _ => Reason::None,
     }
 }
 
-// A row of a layout: start, width, name, long name, text rule, kind. Eight bytes with no gap, so that rows are copied as one block.
-pub struct Row(pub u8, pub u8, pub u16, pub u16, pub u8, pub u8);
+// A row of a layout; a kind is one of `kinds`. Six bytes with no gap, so that rows are copied as one block.
+pub struct Row {
+    pub start: u8,
+    pub width: u8,
+    pub name: u8,
+    pub long: u8,
+    pub rule: u8,
+    pub kind: u8,
+}
 
-// A row's field of a value, as the Rust's FieldInfo. Sixteen bytes with no gap.
+// A row's field of a value, as the Rust's FieldInfo. Sixteen bytes with no gap, in the order of the C record, so that both are copied as one.
 pub struct Record {
     pub value: u64,
     pub name: u16,
@@ -143,39 +70,41 @@ impl Row {
     pub fn get(self, v: u64) -> Record
         ensures { λ r. ⌜ Got (self, v) r ⌝ }
     {
-        let value = field(v, self.0, self.1);
+        let value = field(v, self.start, self.width);
         Record {
             value,
-            name: self.2,
-            long: self.3,
-            text: lookup::text_code(self.4, value),
-            start: self.0,
-            width: self.1,
+            name: self.name as u16,
+            long: self.long as u16,
+            text: lookup::text_code(self.rule, value),
+            start: self.start,
+            width: self.width,
         }
     }
 
-    // What the row refuses of a value, as check_res0 and describe do.
-    pub fn check(self, v: u64) -> Refusal
-        ensures { λ r. ⌜ Checked (self, v) r ⌝ }
+    // Whether the row's field of a value is as the row asks: what check_res0 and describe look at.
+    pub fn meets(self, v: u64) -> bool
+        ensures { λ r. ⌜ Meets (self, v) r ⌝ }
     {
-        let kind = self.5;
-        if kind == kinds::FREE {
-            return Refusal::None;
-        }
-        if kind == kinds::UNCHECKED {
-            return Refusal::None;
-        }
-        let value = field(v, self.0, self.1);
+        let kind = self.kind;
         if kind == kinds::CHECKED {
-            if value == 0 {
-                return Refusal::None;
+            return field(v, self.start, self.width) == 0;
+        }
+        if kinds::CHECKED < kind {
+            if kind <= kinds::LAST {
+                return lookup::says(self.rule, field(v, self.start, self.width));
             }
-            return Refusal::InvalidRes0(value);
         }
-        if lookup::says(self.4, value) {
-            return Refusal::None;
+        true
+    }
+
+    // What the row answers where it is not: the reason of its kind, carrying its field.
+    pub fn refusal(self, v: u64) -> Refusal
+        ensures { λ r. ⌜ Refused (self, v) r ⌝ }
+    {
+        Refusal {
+            carries: field(v, self.start, self.width),
+            reason: reason_of(self.kind),
         }
-        Refusal::numbered(kind, value)
     }
 }
 

@@ -9,7 +9,8 @@ use Rattle.promise.proofs.Tests.{both-left, both-right, true-is, is-true}
 use Rattle.texts.specs.Pool.{says, onList, ruleAt}
 use Rattle.texts.specs.Rules.{rules, message}
 use Rattle.texts.proofs.Laws.{says-below}
-use Rattle.records.specs.declared.Refusal.the-variants.{BadField}
+use Rattle.refusals.specs.Refusals.{bare}
+use Rattle.refusals.specs.declared.Reason.the-variants.{BadField}
 use Rattle.strings.specs.Asked.{valueString, binaryString, messageOf}
 use Rattle.strings.specs.Fields.{valueText, binaryText, fits}
 use Rattle.strings.specs.Messages.{messageText, hasMessage}
@@ -18,7 +19,7 @@ use Rattle.strings.specs.Outcomes.{refused, text}
 -- Fields.
 
 module _ (width value : ℕ) where
-  pub value-no : fits width value ≡ false → valueString width value ≡ refused BadField
+  pub value-no : fits width value ≡ false → valueString width value ≡ refused (bare BadField)
   unfolding valueString
   value-no h = rw h
 
@@ -26,7 +27,7 @@ module _ (width value : ℕ) where
   unfolding valueString
   value-yes h = rw h
 
-  pub binary-no : fits width value ≡ false → binaryString width value ≡ refused BadField
+  pub binary-no : fits width value ≡ false → binaryString width value ≡ refused (bare BadField)
   unfolding binaryString
   binary-no h = rw h
 
@@ -74,7 +75,7 @@ says-seven n = by-test (leb n 7) refl
         says-past n h ∙ rw (le-leb 1 n (omega arith), lt-leb n 7 h)
 
 module _ (number carried : ℕ) where
-  pub message-no : says (message .number) number ≡ false → messageOf number carried ≡ refused BadField
+  pub message-no : says (message .number) number ≡ false → messageOf number carried ≡ refused (bare BadField)
   unfolding messageOf
   message-no h = rw (sym (says-seven number) ∙ h)
 

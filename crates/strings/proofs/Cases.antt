@@ -1,6 +1,6 @@
 -- The texts by cases, and how long each is.
 use mathlib.Core.Path.{_≡_, refl, sym, ap, _∙_}
-use mathlib.Core.Bool.{Bool, true, false}
+use mathlib.Core.Bool.{Bool, true, false, cond}
 use mathlib.Core.List.{[], _++_}
 use Prim.Native.Nat.{ℕ, _+_, _-_, _*_, _/_, _^_, _≤_, _<_}
 use native.Mathlib.Nat.{div-eq-of-lt, one-mul, div-lt-iff-lt-mul}
@@ -68,24 +68,23 @@ module _ (w v : ℕ) where
   unfolding fieldText
   length-field = length-append (valueText w v) (behindValue w v)
 
+  -- at most "false"; wider, what the width says
+  pub field-most : length (fieldText w v) ≤ cond (eqb w 1) 5 (2 + (w + 3) / 4 + (3 + w))
+  field-most = rw length-field (by-tests (eqb w 1) refl (eqb v 1) refl)
+    where
+      by-tests : (b : Bool) → eqb w 1 ≡ b → (d : Bool) → eqb v 1 ≡ d
+          → length (valueText w v) + length (behindValue w v) ≤ cond b 5 (2 + (w + 3) / 4 + (3 + w))
+      by-tests true e true f = rw (behind-bit (eqb-true w 1 e)) (omega (arith, length-true (eqb-true w 1 e) (eqb-true v 1 f)))
+      by-tests true e false f = rw (behind-bit (eqb-true w 1 e)) (omega (arith, length-false (eqb-true w 1 e) (eqb-false v 1 f)))
+      by-tests false e d f = omega (arith, length-wide (eqb-false w 1 e), length-behind (eqb-false w 1 e))
+
   -- a width of eight bits keeps it short
-  value-short : w < 256 → length (valueText w v) ≤ 66
-  value-short h = by-tests (eqb w 1) refl (eqb v 1) refl
-    where
-      by-tests : (b : Bool) → eqb w 1 ≡ b → (d : Bool) → eqb v 1 ≡ d → length (valueText w v) ≤ 66
-      by-tests true e true f = omega (arith, length-true (eqb-true w 1 e) (eqb-true v 1 f))
-      by-tests true e false f = omega (arith, length-false (eqb-true w 1 e) (eqb-false v 1 f))
-      by-tests false e d f = omega (arith, length-wide (eqb-false w 1 e))
-
-  behind-short : w < 256 → length (behindValue w v) ≤ 258
-  behind-short h = by-test (eqb w 1) refl
-    where
-      by-test : (b : Bool) → eqb w 1 ≡ b → length (behindValue w v) ≤ 258
-      by-test true e = omega (arith, ap length (behind-bit (eqb-true w 1 e)))
-      by-test false e = omega (arith, length-behind (eqb-false w 1 e))
-
   pub field-short : w < 256 → length (fieldText w v) ≤ 324
-  field-short h = omega (arith, length-field, value-short h, behind-short h)
+  field-short h = by-test (eqb w 1) field-most
+    where
+      by-test : (b : Bool) → length (fieldText w v) ≤ cond b 5 (2 + (w + 3) / 4 + (3 + w)) → length (fieldText w v) ≤ 324
+      by-test true l = omega arith
+      by-test false l = omega arith
 
   -- Whether a value fits its width, by two shifts: a shift by 64 would be none.
   whole : 1 ≤ w → v / 2 ^ (w - 1) / 2 ^ 1 ≡ v / 2 ^ w

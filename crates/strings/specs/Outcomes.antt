@@ -6,8 +6,9 @@ use mathlib.Core.List.{List, _++_}
 use mathlib.Core.Path.{_≡_}
 use lib.Dec.{leb}
 use lib.ListN.{length, drop}
-use Rattle.records.specs.declared.Refusal.{Refusal}
-use Rattle.records.specs.declared.Refusal.the-variants.{None, ShortBuffer}
+use Rattle.refusals.specs.Refusals.{carrying, noRefusal}
+use Rattle.refusals.specs.declared.Reason.the-variants.{ShortBuffer}
+use Rattle.refusals.specs.declared.Refusal.{Refusal}
 use Rattle.strings.specs.declared.Written.{Written}
 
 -- what is asked for, before the room is looked at
@@ -21,7 +22,7 @@ refusal f = record { refusal = f; bytes = 0 }
 unfoldable pub answered : Outcome → List ℕ → Written
 answered (refused f) before = refusal f
 answered (text t) before =
-    cond (leb (length t) (length before)) (record { refusal = None; bytes = length t }) (refusal (ShortBuffer (length t)))
+    cond (leb (length t) (length before)) (record { refusal = noRefusal; bytes = length t }) (refusal (carrying ShortBuffer (length t)))
 
 unfoldable pub left : Outcome → List ℕ → List ℕ
 left (refused f) before = before

@@ -1,7 +1,7 @@
 // The texts that need no decoding: a field's two value strings and the refusals' messages, at the front of a lent buffer; and a value as it
 // stands in a record's line, at any place. What fills the front measures the whole text, then refuses or writes it; a refusal leaves the
 // buffer as it was.
-ghost use Rattle.records.specs.declared.Refusal.the-variants.{ShortBuffer};
+ghost use Rattle.refusals.specs.Refusals.{carrying};
 ghost use Rattle.strings.specs.Fields.{fits as fitting};
 ghost use Rattle.strings.specs.Outcomes.{refusal as refusing};
 ghost use Rattle.strings.specs.Promises.{BinaryString, FieldLength, FieldPlaced, Message, ValueString};
@@ -14,7 +14,8 @@ use field::put_value;
 use field::value_length;
 use messages::message_length;
 use messages::put_message;
-use records::Refusal;
+use refusals::Reason;
+use refusals::Refusal;
 use texts::rules;
 
 mod digits;
@@ -27,16 +28,13 @@ pub struct Written {
     pub bytes: usize,
 }
 
-fn refuse(refusal: Refusal) -> Written
-    ensures { λ r. ⌜ r ≡ refusing refusal ⌝ }
+fn refuse(reason: Reason, carries: u64) -> Written
+    ensures { λ r. ⌜ r ≡ refusing (carrying reason carries) ⌝ }
 {
-    Written { refusal, bytes: 0 }
-}
-
-fn short(needed: usize) -> Written
-    ensures { λ r. ⌜ r ≡ refusing (ShortBuffer needed) ⌝ }
-{
-    refuse(Refusal::ShortBuffer(needed as u64))
+    Written {
+        refusal: Refusal { carries, reason },
+        bytes: 0,
+    }
 }
 
 fn fits(width: u64, value: u64) -> bool
@@ -55,15 +53,15 @@ pub fn value_string(width: u64, value: u64, buf: &mut [u8]) -> Written
     ensures { λ r. ⌜ ValueString (width, value, now (buf .entry)) (r, now (buf .exit)) ⌝ }
 {
     if !fits(width, value) {
-        return refuse(Refusal::BadField);
+        return refuse(Reason::BadField, 0);
     }
     let digits = value_length(width as u8, value);
     if buf.len() < digits {
-        return short(digits);
+        return refuse(Reason::ShortBuffer, digits as u64);
     }
     put_value(buf, 0, width as u8, value);
     Written {
-        refusal: Refusal::None,
+        refusal: Refusal::NONE,
         bytes: digits,
     }
 }
@@ -72,15 +70,15 @@ pub fn value_binary_string(width: u64, value: u64, buf: &mut [u8]) -> Written
     ensures { λ r. ⌜ BinaryString (width, value, now (buf .entry)) (r, now (buf .exit)) ⌝ }
 {
     if !fits(width, value) {
-        return refuse(Refusal::BadField);
+        return refuse(Reason::BadField, 0);
     }
     let bits = binary_length(width as u8);
     if buf.len() < bits {
-        return short(bits);
+        return refuse(Reason::ShortBuffer, bits as u64);
     }
     put_binary(buf, 0, width as u8, value);
     Written {
-        refusal: Refusal::None,
+        refusal: Refusal::NONE,
         bytes: bits,
     }
 }
@@ -90,17 +88,17 @@ pub fn message(number: u64, carried: u64, buf: &mut [u8]) -> Written
     ensures { λ r. ⌜ Message (number, carried, now (buf .entry)) (r, now (buf .exit)) ⌝ }
 {
     if !lookup::says(rules::MESSAGE, number) {
-        return refuse(Refusal::BadField);
+        return refuse(Reason::BadField, 0);
     }
     let starts = texts::starting_places();
     let words = message_length(&starts, number, carried);
     if buf.len() < words {
-        return short(words);
+        return refuse(Reason::ShortBuffer, words as u64);
     }
     let pool = texts::pool_bytes();
     put_message(buf, &pool, &starts, number, carried);
     Written {
-        refusal: Refusal::None,
+        refusal: Refusal::NONE,
         bytes: words,
     }
 }

@@ -7,8 +7,8 @@ use Prim.Native.Nat.{ℕ}
 use lib.Dec.{T, eqb, eqb→eq}
 use Rattle.promise.proofs.Tests.{both-left, both-right}
 use Rattle.records.specs.declared.Row.{Row}
-use Rattle.tables.specs.Shape.{Test, Condition, always, holds, _and_, _butNot_, Line}
-use Rattle.tables.specs.Layouts.{met, keep}
+use Rattle.tables.specs.Shape.{Test, Condition, Line}
+use Rattle.tables.specs.Applying.{met, keep}
 
 -- Tests compared.
 
@@ -50,15 +50,13 @@ given [] bs t = false
 given (s ∷ ss) [] t = false
 given (s ∷ ss) (b ∷ bs) t = cond (same t s) b (given ss bs t)
 
-abbrev pub knowsAll : List Test → Condition → Bool
-knowsAll ts always = true
-knowsAll ts (holds t) = known ts t
-knowsAll ts (c and d) = knowsAll ts c && knowsAll ts d
-knowsAll ts (c butNot d) = knowsAll ts c && knowsAll ts d
+abbrev pub knowsAll : List Test → List Condition → Bool
+knowsAll ts [] = true
+knowsAll ts (c ∷ cs) = known ts (c .test) && knowsAll ts cs
 
 abbrev pub knowsLines : List Test → List Line → Bool
 knowsLines ts [] = true
-knowsLines ts (l ∷ ls) = knowsAll ts (l .condition) && knowsLines ts ls
+knowsLines ts (l ∷ ls) = knowsAll ts (l .conditions) && knowsLines ts ls
 
 -- the answers that a value gives to the tests are the value's own
 module _ (f : Test → Bool) where
@@ -70,18 +68,15 @@ module _ (f : Test → Bool) where
   given-is [] t h = absurd h
   given-is (s ∷ ss) t h = found s t (same t s) (given ss (map f ss) t) (known ss t) (same-test t s) h (given-is ss t)
 
-  met-is : (ts : List Test) (c : Condition) → T (knowsAll ts c) → met (given ts (map f ts)) c ≡ met f c
-  met-is ts always h = refl
-  met-is ts (holds t) h = given-is ts t h
-  met-is ts (c and d) h =
-      ap₂ _&&_ (met-is ts c (both-left (knowsAll ts c) (knowsAll ts d) h)) (met-is ts d (both-right (knowsAll ts c) (knowsAll ts d) h))
-  met-is ts (c butNot d) h =
-      ap₂ (λ (a b : Bool). a && not b) (met-is ts c (both-left (knowsAll ts c) (knowsAll ts d) h))
-      (met-is ts d (both-right (knowsAll ts c) (knowsAll ts d) h))
+  met-is : (ts : List Test) (cs : List Condition) → T (knowsAll ts cs) → met (given ts (map f ts)) cs ≡ met f cs
+  met-is ts [] h = refl
+  met-is ts (c ∷ cs) h =
+      ap₂ (λ (a b : Bool). cond (c .holds) a (not a) && b) (given-is ts (c .test) (both-left (known ts (c .test)) (knowsAll ts cs) h))
+      (met-is ts cs (both-right (known ts (c .test)) (knowsAll ts cs) h))
 
   pub keep-is : (ts : List Test) (ls : List Line) → T (knowsLines ts ls) → keep (given ts (map f ts)) ls ≡ keep f ls
   keep-is ts [] h = refl
   keep-is ts (l ∷ ls) h =
       ap₂ (λ (b : Bool) (rs : List Row). cond b (l .row ∷ rs) rs)
-      (met-is ts (l .condition) (both-left (knowsAll ts (l .condition)) (knowsLines ts ls) h))
-      (keep-is ts ls (both-right (knowsAll ts (l .condition)) (knowsLines ts ls) h))
+      (met-is ts (l .conditions) (both-left (knowsAll ts (l .conditions)) (knowsLines ts ls) h))
+      (keep-is ts ls (both-right (knowsAll ts (l .conditions)) (knowsLines ts ls) h))

@@ -1,3 +1,3 @@
 pub mod Shape
 pub mod Tables
-pub mod Layouts
+pub mod Applying

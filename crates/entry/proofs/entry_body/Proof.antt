@@ -1,9 +1,10 @@
 -- The judgement tells which part is handed back: none of the block, or the 11 bytes behind its length, which are there.
-use mathlib.Core.Path.{_≡_, sym}
+use mathlib.Core.Path.{_≡_}
+use borrow.Author.Tests.{eq-eqb, ne-eqb}
 use native.Mathlib.Omega.{arith}
-use Rattle.entry.proofs.Laws.{facts, told-sound, told-refused, body-sound, body-refused}
-use Rattle.entry.specs.Entries.{judged}
-use Rattle.records.specs.Refusals.{refusalNumber}
+use Rattle.entry.proofs.Laws.{facts, told-sound, told-refused}
+use Rattle.entry.specs.Entries.{judged, bodyOf}
+use Rattle.refusals.specs.Refusals.{reasonNumber}
 use borrow.Author.Needs.{needs}
 use Rattle.entry.proofs.entry_body.Statement.{statement}
 use Rattle.entry.proofs.entry_body.Tie as tie
@@ -24,12 +25,13 @@ part-result-end : tie.Need-part-result-end
 part-result-end c = search needs
 
 returns : tie.Need-returns
+unfolding bodyOf
 returns c =
     let t = c .before in
-    sym (body-refused _ (told-refused (t .before .before .judge .ensures) (t .before .number .ensures) (t .if1 .taken)))
+    simp (ne-eqb _ _ (told-refused (t .before .before .judge .ensures) (t .before .number .ensures) (t .if1 .taken)))
 
 -- past the test nothing is refused, so that there are 13 bytes
-free : (c : tie.Else1) → refusalNumber (judged (c .before .before .before .before .args .block .now)) ≡ 0
+free : (c : tie.Else1) → reasonNumber (judged (c .before .before .before .before .args .block .now)) ≡ 0
 free c = told-sound (c .before .before .judge .ensures) (c .before .number .ensures) (c .if1 .left)
 
 sub-result-2 : tie.Need-sub-result-2
@@ -42,7 +44,8 @@ part-result-end-2 : tie.Need-part-result-end-2
 part-result-end-2 c = omega (arith, facts _ (free c) .long)
 
 returns-2 : tie.Need-returns-2
-returns-2 c = sym (body-sound _ (free (c .before)))
+unfolding bodyOf
+returns-2 c = simp (eq-eqb _ _ (free (c .before)))
 
 pub entry-body-spec : {M : Type 1} → statement M
 entry-body-spec =

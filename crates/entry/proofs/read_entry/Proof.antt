@@ -5,8 +5,8 @@ use Prim.Native.Nat.{_≤_}
 use lib.ListN.{length, drop, length-drop}
 use Rattle.entry.proofs.Laws.{part-below, facts, told-sound, told-refused, entry-sound, entry-refused}
 use Rattle.entry.specs.Entries.{judged}
-use Rattle.records.specs.Refusals.{refusalNumber}
-use Rattle.records.specs.declared.Refusal.{Refusal}
+use Rattle.refusals.specs.Refusals.{bare, reasonNumber}
+use Rattle.refusals.specs.declared.Reason.{Reason}
 use borrow.Author.Needs.{needs}
 use Rattle.entry.proofs.read_entry.Statement.{statement}
 use Rattle.entry.proofs.read_entry.Tie as tie
@@ -20,11 +20,11 @@ number-requires c κs = search needs
 returns : tie.Need-returns
 returns c =
     let n = c .before in
-    ap (λ (f : Refusal). record { esr = 0; refusal = f; sequence = 0 }) (n .before .judge .ensures)
+    ap (λ (f : Reason). record { esr = 0; refusal = bare f; sequence = 0 }) (n .before .judge .ensures)
     ∙ sym (entry-refused _ (told-refused (n .before .judge .ensures) (n .number .ensures) (c .if1 .taken)))
 
 -- past the test nothing is refused, so that there are 13 bytes
-free : (c : tie.Else1) → refusalNumber (judged (c .before .before .before .before .args .block .now)) ≡ 0
+free : (c : tie.Else1) → reasonNumber (judged (c .before .before .before .before .args .block .now)) ≡ 0
 free c = told-sound (c .before .before .judge .ensures) (c .before .number .ensures) (c .if1 .left)
 
 sub-big-endian : tie.Need-sub-big-endian
@@ -51,8 +51,8 @@ part-big-endian-end-2 c = omega (arith, facts _ (free (c .before .before)) .long
 big-endian-requires-2 : tie.Need-big-endian-requires-2
 big-endian-requires-2 c κs = search needs
 
-cast-t15 : tie.Need-cast-t15
-cast-t15 c =
+cast-t17 : tie.Need-cast-t17
+cast-t17 c =
     let t = c .before .before .before .before in
     let s = t .before .before .before .before .args .block .now in
     let l : 2 ≤ length (drop 3 s) = omega (arith, facts s (free t) .long, length-drop 3 s) in
@@ -78,5 +78,5 @@ read-entry-spec =
     part-big-endian-start-2
     part-big-endian-end-2
     big-endian-requires-2
-    cast-t15
+    cast-t17
     returns-2)

@@ -13,9 +13,10 @@ use Rattle.records.specs.Sets.{recordsOf}
 use Rattle.records.specs.declared.Record.{Record}
 use Rattle.records.specs.declared.Records.{Records}
 use Rattle.records.proofs.Laws.{pushedAll}
-use Rattle.tables.specs.declared.Layout.{Layout}
+use Rattle.layouts.specs.declared.Layout.{Layout}
+use Rattle.layouts.proofs.Places.{Fits, layout-fits}
 use Rattle.tables.specs.Tables.{topRows}
-use Rattle.esr.proofs.Laws.{Fits, walked, fits, laid-records, top-count, walk-count, walk-more}
+use Rattle.esr.proofs.Laws.{walked, laid-records, top-count, walk-count, walk-more}
 use Rattle.esr.proofs.all_records.Statement.{statement}
 use Rattle.esr.proofs.all_records.Tie as tie
 
@@ -93,7 +94,7 @@ loop-holds c =
     let g = c .before .before .before .before in
     let l = g .before .before in
     let a = l .before .args in (
-      fits (a .number) (a .iss) (l .layout-of .result) (l .layout-of .ensures),
+      layout-fits (a .number) (a .iss) (l .layout-of .result) (l .layout-of .ensures),
       omega arith,
       five (g .before .empty .result) (g .get .result) (c .before .before .before .get2 .result) (c .before .before .get3 .result)
           (c .before .get4 .result) (c .get5 .result) (g .before .empty .ensures)

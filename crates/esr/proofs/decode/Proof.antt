@@ -1,66 +1,59 @@
 -- 01's order: the reserved top bits, the class, the layout.
-use mathlib.Core.Path.{sym, _∙_}
+use mathlib.Core.Path.{_≡_, sym, ap, _∙_}
+use Prim.Native.Nat.{ℕ}
 use native.Mathlib.Omega.{arith}
 use Rattle.texts.specs.Names.{names}
 use Rattle.texts.specs.Pool.{code, placeIn}
+use Rattle.refusals.specs.Refusals.{carrying}
+use Rattle.refusals.specs.declared.Reason.the-variants.{InvalidEc}
 use Rattle.records.proofs.Laws.{field-lt}
-use Rattle.esr.proofs.Laws.{top-fails, class-empty, class-filled}
+use Rattle.layouts.specs.Layouts.{layoutNumber}
+use Rattle.esr.specs.Decode.{refused}
+use Rattle.esr.proofs.Laws.{top-fails, top-passes, class-empty, class-filled}
 use borrow.Author.Needs.{needs}
+use borrow.Author.Tests.{not-true, not-false}
 use Rattle.esr.proofs.decode.Statement.{statement}
 use Rattle.esr.proofs.decode.Tie as tie
-
-check-requires : tie.Need-check-requires
-check-requires c κs = search needs
-
-number-requires : tie.Need-number-requires
-number-requires c κs = search needs
-
-refuse-requires : tie.Need-refuse-requires
-refuse-requires c κs = search needs
 
 returns : tie.Need-returns
 unfolding code placeIn names
 returns c =
-    c .refuse .ensures
-    ∙ top-fails (c .before .before .before .before .args .esr) (c .before .before .before .check .result) (c .before .before .before .check .ensures) (λ e. c .before .if1 .taken (c .before .before .number .ensures ∙ e))
-
-field-requires : tie.Need-field-requires
-field-requires c κs = search needs
-
-layout-number-requires : tie.Need-layout-number-requires
-layout-number-requires c κs = omega (arith, c .field .ensures, field-lt (c .before .before .before .before .args .esr) 26 6)
-
-refuse-requires-2 : tie.Need-refuse-requires-2
-refuse-requires-2 c κs = search needs
+    let r = c .before in
+    let m = r .before .before in
+    c .refuse .ensures ∙ ap refused (r .refusal .ensures) ∙ top-fails (m .before .args .esr) (sym (m .meets .ensures) ∙ not-true _ (r .before .if1 .taken))
 
 returns-2 : tie.Need-returns-2
 unfolding code placeIn names
 returns-2 c =
+    let n = c .before .before in
+    let f = n .before in
+    let m = f .before .before in
     c .refuse2 .ensures
-    ∙ class-empty (c .before .before .before .before .before .before .before .args .esr) (c .before .before .before .before .before .before .check .result) (c .before .before .before .before .before .before .check .ensures) (sym (c .before .before .before .before .before .number .ensures) ∙ c .before .before .before .before .if1 .left)
-    (c .before .before .before .field .result) (c .before .before .layout-number .result) (c .before .before .before .field .ensures) (c .before .before .layout-number .ensures) (c .before .if2 .taken)
-
-read-requires : tie.Need-read-requires
-read-requires c κs = search needs
+    ∙ ap (λ (k : ℕ). refused (carrying InvalidEc k)) (f .field .ensures)
+    ∙ class-empty (m .before .args .esr) (n .layout-number .result) (n .layout-number .ensures ∙ ap layoutNumber (f .field .ensures)) (c .before .if2 .taken)
+    ∙ top-passes (m .before .args .esr) (sym (m .meets .ensures) ∙ not-false _ (f .before .if1 .left))
 
 returns-3 : tie.Need-returns-3
 unfolding code placeIn names
 returns-3 c =
+    let n = c .before .before in
+    let f = n .before in
+    let m = f .before .before in
     c .read .ensures
-    ∙ class-filled (c .before .before .before .before .before .before .before .args .esr) (c .before .before .before .before .before .before .check .result) (c .before .before .before .before .before .before .check .ensures) (sym (c .before .before .before .before .before .number .ensures) ∙ c .before .before .before .before .if1 .left)
-    (c .before .before .before .field .result) (c .before .before .layout-number .result) (c .before .before .before .field .ensures) (c .before .before .layout-number .ensures) (c .before .if2 .left)
+    ∙ class-filled (m .before .args .esr) (n .layout-number .result) (n .layout-number .ensures ∙ ap layoutNumber (f .field .ensures)) (c .before .if2 .left)
+    ∙ top-passes (m .before .args .esr) (sym (m .meets .ensures) ∙ not-false _ (f .before .if1 .left))
 
 pub decode-spec : {M : Type 1} → statement M
 decode-spec =
     tie.close
     (tie.spec
-    check-requires
-    number-requires
-    refuse-requires
+    (λ c κs. search needs)
+    (λ c κs. search needs)
+    (λ c κs. search needs)
     returns
-    field-requires
-    layout-number-requires
-    refuse-requires-2
+    (λ c κs. search needs)
+    (λ c κs. omega (arith, c .field .ensures, field-lt (c .before .before .before .args .esr) 26 6))
+    (λ c κs. search needs)
     returns-2
-    read-requires
+    (λ c κs. search needs)
     returns-3)

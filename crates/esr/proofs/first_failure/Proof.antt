@@ -1,11 +1,14 @@
 -- The invariant: what is left of the checks answers as all of them do. A check that fails answers; with none left, nothing is refused.
-use mathlib.Core.Path.{_≡_, sym, _∙_}
-use Prim.Native.Nat.{_-_, _≤_}
+use mathlib.Core.Path.{_≡_, sym, ap, _∙_}
+use Prim.Native.Nat.{_-_, _≤_, _<_}
 use native.Mathlib.Omega.{arith}
-use lib.ListN.{take, drop}
-use Rattle.tables.specs.Tables.{tableOf}
+use lib.ListN.{getD, take, drop}
+use borrow.Author.Tests.{not-true, not-false}
+use Rattle.layouts.specs.Layouts.{layoutRoom}
+use Rattle.layouts.specs.Layouts.{tableOf}
+use Rattle.layouts.proofs.Places.{rowsAt, Fits, layout-fits, layout-checks}
 use Rattle.esr.specs.Decode.{firstFailure, failureFor}
-use Rattle.esr.proofs.Laws.{Fits, firstLaid, fits, laid-failure, check-fails, check-passes, checks-done}
+use Rattle.esr.proofs.Laws.{check-fails, check-passes, checks-done}
 use Rattle.esr.proofs.first_failure.Statement.{statement}
 use Rattle.esr.proofs.first_failure.Tie as tie
 
@@ -13,72 +16,47 @@ abbrev Inv-loop : tie.InvT-loop
 Inv-loop number iss layout i₀ i =
     Fits layout
     × (i ≤ layout .checked)
-    × (failureFor (tableOf number) iss ≡ firstFailure iss (layout .rows) (drop i (take (layout .checked) (layout .checks))))
+    × (failureFor (tableOf number) iss ≡ firstFailure iss (rowsAt (layout .rows) (drop i (take (layout .checked) (layout .checks)))))
 
 abbrev μ-loop : tie.MeasureT-loop
 μ-loop number iss layout i₀ i = layout .checked - i
 
-layout-of-requires : tie.Need-layout-of-requires Inv-loop μ-loop
-layout-of-requires c κs = tt
-
 loop-holds : tie.Need-loop-holds Inv-loop μ-loop
-unfolding firstLaid
+unfolding failureFor
 loop-holds c =
     let a = c .before .args in
     let l = c .layout-of in
-    (fits (a .number) (a .iss) (l .result) (l .ensures), omega arith, sym (laid-failure (a .number) (a .iss) (l .result) (l .ensures)))
+    (layout-fits (a .number) (a .iss) (l .result) (l .ensures), omega arith, ap (firstFailure (a .iss)) (sym (layout-checks (a .number) (a .iss) (l .result) (l .ensures))))
 
-cast-loop : tie.Need-cast-loop Inv-loop μ-loop
-cast-loop c = omega (arith, c .loop .inv .0 .fewChecks)
-
-element-copy-out-place : tie.Need-element-copy-out-place Inv-loop μ-loop
-element-copy-out-place c = omega (arith, c .before .loop .inv .0 .fewChecks)
-
-cast-place : tie.Need-cast-place Inv-loop μ-loop
-cast-place c = let l = c .before .before .loop in omega (arith, l .inv .0 .within (l .i) (omega arith))
-
-mul-row : tie.Need-mul-row Inv-loop μ-loop
-mul-row c = let l = c .before .before .loop in omega (arith, l .inv .0 .within (l .i) (omega arith))
-
-element-copy-out-row : tie.Need-element-copy-out-row Inv-loop μ-loop
-element-copy-out-row c = let l = c .before .before .loop in l .inv .0 .within (l .i) (omega arith)
-
-check-requires : tie.Need-check-requires Inv-loop μ-loop
-check-requires c κs = tt
-
-number-requires : tie.Need-number-requires Inv-loop μ-loop
-number-requires c κs = tt
+-- the place of the row that is looked at lies within the layout
+within : (c : tie.In-loop Inv-loop μ-loop) → getD (c .before .before .layout-of .result .checks) (c .before .loop .i) 0 < layoutRoom
+within c = c .before .loop .inv .0 .within (c .before .loop .i) (omega arith)
 
 returns : tie.Need-returns Inv-loop μ-loop
 returns c =
-    let k = c .before .before in
-    let s = k .before .before .before .before in
+    let m = c .before .before in
+    let s = m .before .before .before .before in
     let l = s .loop in
     let f = l .inv .0 in
     let laid = s .before .layout-of .result in
-    sym
+    c .refusal .ensures
+    ∙ sym
     (l .inv .2
-    ∙ check-fails (s .before .before .args .iss) (laid .rows) (laid .checks) (laid .checked) (l .i) (k .check .result)
-    (omega (arith, f .fewChecks, f .longChecks)) (omega arith) (k .check .ensures) (λ e. c .if1 .taken (c .before .number .ensures ∙ e)))
-
-add-i : tie.Need-add-i Inv-loop μ-loop
-add-i c = omega (arith, c .before .before .before .before .before .before .loop .inv .0 .fewChecks)
-
-loop-less : tie.Need-loop-less Inv-loop μ-loop
-loop-less c = omega arith
+    ∙ check-fails (s .before .before .args .iss) (laid .rows) (laid .checks) (laid .checked) (l .i) (m .meets .result)
+    (omega (arith, f .fewChecks, f .longChecks)) (omega arith) (m .meets .ensures) (not-true _ (c .before .if1 .taken)))
 
 loop-again : tie.Need-loop-again Inv-loop μ-loop
 loop-again c =
-    let k = c .before .before in
-    let s = k .before .before .before .before in
+    let m = c .before in
+    let s = m .before .before .before .before in
     let l = s .loop in
     let f = l .inv .0 in
     let laid = s .before .layout-of .result in (
       f,
       omega arith,
       l .inv .2
-          ∙ check-passes (s .before .before .args .iss) (laid .rows) (laid .checks) (laid .checked) (l .i) (k .check .result)
-          (omega (arith, f .fewChecks, f .longChecks)) (omega arith) (k .check .ensures) (sym (c .before .number .ensures) ∙ c .if1 .left),
+          ∙ check-passes (s .before .before .args .iss) (laid .rows) (laid .checks) (laid .checked) (l .i) (m .meets .result)
+          (omega (arith, f .fewChecks, f .longChecks)) (omega arith) (m .meets .ensures) (not-false _ (c .if1 .left)),
     )
 
 returns-2 : tie.Need-returns-2 Inv-loop μ-loop
@@ -97,17 +75,17 @@ first-failure-spec =
     (tie.spec
     Inv-loop
     μ-loop
-    layout-of-requires
+    (λ c κs. tt)
     loop-holds
-    cast-loop
-    element-copy-out-place
-    cast-place
-    mul-row
-    element-copy-out-row
-    check-requires
-    number-requires
+    (λ c. omega (arith, c .loop .inv .0 .fewChecks))
+    (λ c. omega (arith, c .before .loop .inv .0 .fewChecks))
+    (λ c. omega (arith, within (c .before)))
+    (λ c. omega (arith, within (c .before)))
+    (λ c. within (c .before))
+    (λ c κs. tt)
+    (λ c κs. tt)
     returns
-    add-i
-    loop-less
+    (λ c. omega (arith, c .before .before .before .before .before .loop .inv .0 .fewChecks))
+    (λ c. omega arith)
     loop-again
     returns-2)

@@ -1,7 +1,7 @@
 -- The table lists the number of each class's layout: computed once, and read at any place.
 use Rattle.promise.proofs.Tests.{tab-at}
 use Rattle.tables.specs.Tables.{layouts}
-use Rattle.esr.specs.Decode.{layoutNumber}
+use Rattle.layouts.specs.Layouts.{layoutNumber}
 use borrow.Author.Needs.{needs}
 use Rattle.esr.proofs.layout_number.Statement.{statement}
 use Rattle.esr.proofs.layout_number.Tie as tie

@@ -1,25 +1,13 @@
 -- What the checks answer, and where they pass, the table's records.
 use mathlib.Core.Path.{sym, ap, _∙_}
 use Rattle.records.specs.declared.Records.{Records}
-use Rattle.records.specs.declared.Refusal.the-variants.{None}
-use Rattle.tables.specs.Tables.{tableOf}
+use Rattle.refusals.specs.Refusals.{noRefusal}
+use Rattle.layouts.specs.Layouts.{tableOf}
 use Rattle.esr.specs.Decode.{tableAnswer, accepted}
 use Rattle.esr.proofs.Laws.{read-fails, read-passes}
 use borrow.Author.Needs.{needs}
 use Rattle.esr.proofs.read.Statement.{statement}
 use Rattle.esr.proofs.read.Tie as tie
-
-field-requires : tie.Need-field-requires
-field-requires c κs = search needs
-
-first-failure-requires : tie.Need-first-failure-requires
-first-failure-requires c κs = search needs
-
-number-requires : tie.Need-number-requires
-number-requires c κs = search needs
-
-refuse-requires : tie.Need-refuse-requires
-refuse-requires c κs = search needs
 
 returns : tie.Need-returns
 returns c =
@@ -31,16 +19,13 @@ returns c =
     (λ e. c .before .if1 .taken (c .before .before .number .ensures ∙ e))
     ∙ ap (tableAnswer (tableOf (a .number)) (a .esr)) (v .field .ensures)
 
-all-records-requires : tie.Need-all-records-requires
-all-records-requires c κs = search needs
-
 returns-2 : tie.Need-returns-2
 unfolding accepted
 returns-2 c =
     let f = c .before .before .before in
     let v = f .before in
     let a = v .before .args in
-    ap (λ (s : Records). record { refusal = None; records = s }) (c .all-records .ensures)
+    ap (λ (s : Records). record { refusal = noRefusal; records = s }) (c .all-records .ensures)
     ∙ read-passes (tableOf (a .number)) (a .esr) (v .field .result) (f .first-failure .result) (f .first-failure .ensures)
     (sym (c .before .before .number .ensures) ∙ c .before .if1 .left)
     ∙ ap (tableAnswer (tableOf (a .number)) (a .esr)) (v .field .ensures)
@@ -48,4 +33,11 @@ returns-2 c =
 pub read-spec : {M : Type 1} → statement M
 read-spec =
     tie.close
-    (tie.spec field-requires first-failure-requires number-requires refuse-requires returns all-records-requires returns-2)
+    (tie.spec
+    (λ c κs. search needs)
+    (λ c κs. search needs)
+    (λ c κs. search needs)
+    (λ c κs. search needs)
+    returns
+    (λ c κs. search needs)
+    returns-2)

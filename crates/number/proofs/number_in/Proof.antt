@@ -21,8 +21,8 @@ steps-requires c κs = search needs
 returns-2 : tie.Need-returns-2
 unfolding numberIn
 returns-2 c =
-    let u = c .before in
-    simp (ne-eqb _ _ (u .before .before .if1 .left), c .steps .ensures, u .unsigned-part .ensures, u .before .start .ensures)
+    let u = c .before .before in
+    simp (ne-eqb _ _ (u .before .before .if1 .left), c .before .steps .ensures, u .unsigned-part .ensures, u .before .start .ensures)
 
 pub number-in-spec : {M : Type 1} → statement M
 number-in-spec =

@@ -5,57 +5,52 @@ use borrow.Author.Tests.{not-true, not-false}
 use mathlib.Core.Path.{refl, sym, _∙_}
 use Rattle.strings.proofs.Cases.{length-binary}
 use Rattle.strings.proofs.Answers.{binary-no, binary-yes, width-small}
-use Rattle.strings.specs.Fields.{binaryText}
-use Rattle.records.specs.declared.Refusal.the-variants.{BadField}
 use Rattle.strings.proofs.Kept.{by-refusal, by-shortness, by-writing}
 use Rattle.strings.proofs.value_binary_string.Statement.{statement}
 use Rattle.strings.proofs.value_binary_string.Tie as tie
 
-fits-requires : tie.Need-fits-requires
-fits-requires c κs = search needs
-
-refuse-requires : tie.Need-refuse-requires
-refuse-requires c κs = search needs
-
 returns : tie.Need-returns
-returns c = by-refusal BadField (binary-no (c .before .before .before .before .args .width) (c .before .before .before .before .args .value) (sym (c .before .before .fits2 .ensures) ∙ not-true _ (c .before .if1 .taken))) (c .refuse .ensures)
+returns c = by-refusal (binary-no _ _ (sym (c .before .before .fits2 .ensures) ∙ not-true _ (c .before .if1 .taken))) (c .refuse .ensures)
 
 cast-binary-length : tie.Need-cast-binary-length
-cast-binary-length c = omega (arith, width-small (c .before .before .before .args .width) (c .before .before .before .args .value) (sym (c .before .fits2 .ensures) ∙ not-false _ (c .if1 .left)))
-
-binary-length-requires : tie.Need-binary-length-requires
-binary-length-requires c κs = search needs
-
-short-requires : tie.Need-short-requires
-short-requires c κs = search needs
+cast-binary-length c = omega (arith, width-small _ _ (sym (c .before .fits2 .ensures) ∙ not-false _ (c .if1 .left)))
 
 returns-2 : tie.Need-returns-2
-returns-2 c = by-shortness (binaryText (c .before .before .before .before .before .before .args .width) (c .before .before .before .before .before .before .args .value)) (c .before .before .binary-length .result) (binary-yes (c .before .before .before .before .before .before .args .width) (c .before .before .before .before .before .before .args .value) (sym (c .before .before .before .before .fits2 .ensures) ∙ not-false _ (c .before .before .before .if1 .left))) (c .before .before .binary-length .ensures ∙ sym (length-binary (c .before .before .before .before .before .before .args .width) (c .before .before .before .before .before .before .args .value))) (c .before .if2 .taken) (c .short .ensures)
+returns-2 c =
+    let l = c .before .before in
+    let t = l .before in
+    by-shortness (binary-yes _ _ (sym (t .before .fits2 .ensures) ∙ not-false _ (t .if1 .left))) (l .binary-length .ensures ∙ sym (length-binary _ _)) (c .before .if2 .taken) (c .refuse2 .ensures)
 
 cast-put-binary : tie.Need-cast-put-binary
-cast-put-binary c = omega (arith, width-small (c .before .before .before .before .before .before .args .width) (c .before .before .before .before .before .before .args .value) (sym (c .before .before .before .before .fits2 .ensures) ∙ not-false _ (c .before .before .before .if1 .left)))
+cast-put-binary c =
+    let t = c .before .before .before in
+    omega (arith, width-small _ _ (sym (t .before .fits2 .ensures) ∙ not-false _ (t .if1 .left)))
 
 put-binary-requires : tie.Need-put-binary-requires
-put-binary-requires c κs = omega (arith, (c .before .before .binary-length .ensures ∙ sym (length-binary (c .before .before .before .before .before .before .args .width) (c .before .before .before .before .before .before .args .value))))
-
-same-length : tie.Need-same-length
-same-length c = search needs
+put-binary-requires c κs =
+    let l = c .before .before in
+    let a = l .before .before .before .before .args in
+    omega (arith, l .binary-length .ensures, length-binary (a .width) (a .value))
 
 returns-3 : tie.Need-returns-3
-returns-3 c = by-writing (binaryText (c .before .before .before .before .before .before .before .before .before .args .width) (c .before .before .before .before .before .before .before .before .before .args .value)) (binary-yes (c .before .before .before .before .before .before .before .before .before .args .width) (c .before .before .before .before .before .before .before .before .before .args .value) (sym (c .before .before .before .before .before .before .before .fits2 .ensures) ∙ not-false _ (c .before .before .before .before .before .before .if1 .left))) (c .before .before .before .before .before .binary-length .ensures ∙ sym (length-binary (c .before .before .before .before .before .before .before .before .before .args .width) (c .before .before .before .before .before .before .before .before .before .args .value))) (c .before .before .before .before .if2 .left) (c .before .before .put-binary .ensures) refl
+returns-3 c =
+    let w = c .before .before in
+    let l = w .before .before .before in
+    let t = l .before in
+    by-writing (binary-yes _ _ (sym (t .before .fits2 .ensures) ∙ not-false _ (t .if1 .left))) (l .binary-length .ensures ∙ sym (length-binary _ _)) (w .before .before .if2 .left) (w .put-binary .ensures) refl
 
 pub value-binary-string-spec : {M : Type 1} → statement M
 value-binary-string-spec =
     tie.close
     (tie.spec
-    fits-requires
-    refuse-requires
+    (λ c κs. search needs)
+    (λ c κs. search needs)
     returns
     cast-binary-length
-    binary-length-requires
-    short-requires
+    (λ c κs. search needs)
+    (λ c κs. search needs)
     returns-2
     cast-put-binary
     put-binary-requires
-    same-length
+    (λ c. search needs)
     returns-3)

@@ -6,15 +6,16 @@ use mathlib.Core.List.{List, [], _∷_}
 use Prim.Native.Nat.{ℕ}
 use Rattle.texts.specs.Names.{names}
 use Rattle.texts.specs.Pool.{code, placeIn}
-use Rattle.tables.specs.Shape.{Test, isSet, isStatus, isExternal}
-use Rattle.tables.specs.Layouts.{passes}
+use Rattle.tables.specs.Shape.{Test, bit, isStatus, isExternal}
+use Rattle.tables.specs.Applying.{passes}
+use Rattle.records.specs.Kinds.{kindOf}
 use Rattle.tables.specs.Tables.{dataAbort}
 use Rattle.layouts.proofs.Laws.{layout-at, passes-one, fails-one, passes-bit, passes-external}
 use Rattle.layouts.proofs.abort.decode_iss_data_abort.Statement.{statement}
 use Rattle.layouts.proofs.abort.decode_iss_data_abort.Tie as tie
 
 abbrev tests : List Test
-tests = isSet 24 ∷ isExternal ∷ isStatus 0x10 ∷ isSet 10 ∷ []
+tests = bit 24 ∷ isExternal ∷ isStatus 0x10 ∷ bit 10 ∷ []
 
 field-requires : tie.Need-field-requires
 field-requires c κs = search needs
@@ -23,10 +24,10 @@ as-bit-requires : tie.Need-as-bit-requires
 as-bit-requires c κs = search needs
 
 returns : tie.Need-returns
-unfolding dataAbort code placeIn names
+unfolding dataAbort code placeIn names kindOf
 returns c =
     let v : ℕ = c .before .before .before .before .args .iss in
-    layout-at dataAbort tests tt v (true ∷ true ∷ true ∷ passes v (isSet 10) ∷ []) (
+    layout-at dataAbort tests tt v (true ∷ true ∷ true ∷ passes v (bit 10) ∷ []) (
       passes-bit v 24 _ true (c .before .before .as-bit .ensures) (c .before .if1 .taken),
       (
         passes-external v 0x10 true (sym (c .if2 .taken) ∙ c .before .before .before .field .ensures) refl,
@@ -41,10 +42,10 @@ returns c =
     )
 
 returns-2 : tie.Need-returns-2
-unfolding dataAbort code placeIn names
+unfolding dataAbort code placeIn names kindOf
 returns-2 c =
     let v : ℕ = c .before .before .before .before .args .iss in
-    layout-at dataAbort tests tt v (true ∷ passes v isExternal ∷ false ∷ passes v (isSet 10) ∷ []) (
+    layout-at dataAbort tests tt v (true ∷ passes v isExternal ∷ false ∷ passes v (bit 10) ∷ []) (
       passes-bit v 24 _ true (c .before .before .as-bit .ensures) (c .before .if1 .taken),
       (
         refl,
@@ -62,7 +63,7 @@ as-bit-requires-2 : tie.Need-as-bit-requires-2
 as-bit-requires-2 c κs = search needs
 
 returns-3 : tie.Need-returns-3
-unfolding dataAbort code placeIn names
+unfolding dataAbort code placeIn names kindOf
 returns-3 c =
     let v : ℕ = c .before .before .before .before .before .before .args .iss in
     layout-at dataAbort tests tt v (false ∷ true ∷ true ∷ true ∷ []) (
@@ -80,7 +81,7 @@ returns-3 c =
     )
 
 returns-4 : tie.Need-returns-4
-unfolding dataAbort code placeIn names
+unfolding dataAbort code placeIn names kindOf
 returns-4 c =
     let v : ℕ = c .before .before .before .before .before .before .args .iss in
     layout-at dataAbort tests tt v (false ∷ true ∷ true ∷ false ∷ []) (
@@ -101,10 +102,10 @@ is-external-abort-fsc-requires : tie.Need-is-external-abort-fsc-requires
 is-external-abort-fsc-requires c κs = search needs
 
 returns-5 : tie.Need-returns-5
-unfolding dataAbort code placeIn names
+unfolding dataAbort code placeIn names kindOf
 returns-5 c =
     let v : ℕ = c .before .before .before .before .before .before .args .iss in
-    layout-at dataAbort tests tt v (false ∷ true ∷ false ∷ passes v (isSet 10) ∷ []) (
+    layout-at dataAbort tests tt v (false ∷ true ∷ false ∷ passes v (bit 10) ∷ []) (
       passes-bit v 24 _ false (c .before .before .before .before .as-bit .ensures) (c .before .before .before .if1 .left),
       (
         passes-external v _ true (c .before .before .before .before .before .field .ensures) (sym (c .if5 .taken) ∙ c .before .is-external-abort-fsc .ensures),
@@ -119,10 +120,10 @@ returns-5 c =
     )
 
 returns-6 : tie.Need-returns-6
-unfolding dataAbort code placeIn names
+unfolding dataAbort code placeIn names kindOf
 returns-6 c =
     let v : ℕ = c .before .before .before .before .before .before .args .iss in
-    layout-at dataAbort tests tt v (false ∷ false ∷ false ∷ passes v (isSet 10) ∷ []) (
+    layout-at dataAbort tests tt v (false ∷ false ∷ false ∷ passes v (bit 10) ∷ []) (
       passes-bit v 24 _ false (c .before .before .before .before .as-bit .ensures) (c .before .before .before .if1 .left),
       (
         passes-external v _ false (c .before .before .before .before .before .field .ensures) (sym (c .if5 .left) ∙ c .before .is-external-abort-fsc .ensures),

@@ -6,7 +6,7 @@ use native.Mathlib.Omega.{arith}
 use lib.Dec.{T}
 use borrow.Author.Tests.{ne-eqb}
 use Rattle.promise.proofs.Tests.{from-at, true-is}
-use Rattle.tables.specs.Layouts.{member}
+use Rattle.promise.specs.Member.{member}
 use Rattle.tables.specs.Shape.{externals}
 use Rattle.layouts.proofs.abort.is_external_abort_fsc.Statement.{statement}
 use Rattle.layouts.proofs.abort.is_external_abort_fsc.Tie as tie

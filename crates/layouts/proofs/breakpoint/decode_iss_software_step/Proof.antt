@@ -5,20 +5,21 @@ use mathlib.Core.List.{List, [], _∷_}
 use Prim.Native.Nat.{ℕ}
 use Rattle.texts.specs.Names.{names}
 use Rattle.texts.specs.Pool.{code, placeIn}
-use Rattle.tables.specs.Shape.{Test, isSet}
+use Rattle.tables.specs.Shape.{Test, bit}
+use Rattle.records.specs.Kinds.{kindOf}
 use Rattle.tables.specs.Tables.{softwareStep}
 use Rattle.layouts.proofs.Laws.{layout-at, passes-bit}
 use Rattle.layouts.proofs.breakpoint.decode_iss_software_step.Statement.{statement}
 use Rattle.layouts.proofs.breakpoint.decode_iss_software_step.Tie as tie
 
 abbrev tests : List Test
-tests = isSet 24 ∷ []
+tests = bit 24 ∷ []
 
 as-bit-requires : tie.Need-as-bit-requires
 as-bit-requires c κs = search needs
 
 returns : tie.Need-returns
-unfolding softwareStep code placeIn names
+unfolding softwareStep code placeIn names kindOf
 returns c =
     let v : ℕ = c .before .before .args .iss in
     layout-at softwareStep tests tt v (true ∷ []) (
@@ -27,7 +28,7 @@ returns c =
     )
 
 returns-2 : tie.Need-returns-2
-unfolding softwareStep code placeIn names
+unfolding softwareStep code placeIn names kindOf
 returns-2 c =
     let v : ℕ = c .before .before .args .iss in
     layout-at softwareStep tests tt v (false ∷ []) (

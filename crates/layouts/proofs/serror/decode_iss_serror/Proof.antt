@@ -6,24 +6,25 @@ use mathlib.Core.List.{List, [], _∷_}
 use Prim.Native.Nat.{ℕ}
 use Rattle.texts.specs.Names.{names}
 use Rattle.texts.specs.Pool.{code, placeIn}
-use Rattle.tables.specs.Shape.{Test, isSet, isStatus}
-use Rattle.tables.specs.Layouts.{passes}
+use Rattle.tables.specs.Shape.{Test, bit, isStatus}
+use Rattle.tables.specs.Applying.{passes}
+use Rattle.records.specs.Kinds.{kindOf}
 use Rattle.tables.specs.Tables.{serror}
 use Rattle.layouts.proofs.Laws.{layout-at, passes-one, fails-one, passes-bit}
 use Rattle.layouts.proofs.serror.decode_iss_serror.Statement.{statement}
 use Rattle.layouts.proofs.serror.decode_iss_serror.Tie as tie
 
 abbrev tests : List Test
-tests = isSet 24 ∷ isStatus 0x11 ∷ isSet 7 ∷ []
+tests = bit 24 ∷ isStatus 0x11 ∷ bit 7 ∷ []
 
 as-bit-requires : tie.Need-as-bit-requires
 as-bit-requires c κs = search needs
 
 returns : tie.Need-returns
-unfolding serror code placeIn names
+unfolding serror code placeIn names kindOf
 returns c =
     let v : ℕ = c .before .before .args .iss in
-    layout-at serror tests tt v (true ∷ passes v (isStatus 0x11) ∷ passes v (isSet 7) ∷ []) (
+    layout-at serror tests tt v (true ∷ passes v (isStatus 0x11) ∷ passes v (bit 7) ∷ []) (
       passes-bit v 24 _ true (c .before .as-bit .ensures) (c .if1 .taken),
       (
         refl,
@@ -41,7 +42,7 @@ as-bit-requires-2 : tie.Need-as-bit-requires-2
 as-bit-requires-2 c κs = search needs
 
 returns-2 : tie.Need-returns-2
-unfolding serror code placeIn names
+unfolding serror code placeIn names kindOf
 returns-2 c =
     let v : ℕ = c .before .before .before .before .before .before .args .iss in
     layout-at serror tests tt v (false ∷ true ∷ true ∷ []) (
@@ -56,7 +57,7 @@ returns-2 c =
     )
 
 returns-3 : tie.Need-returns-3
-unfolding serror code placeIn names
+unfolding serror code placeIn names kindOf
 returns-3 c =
     let v : ℕ = c .before .before .before .before .before .before .args .iss in
     layout-at serror tests tt v (false ∷ true ∷ false ∷ []) (
@@ -71,10 +72,10 @@ returns-3 c =
     )
 
 returns-4 : tie.Need-returns-4
-unfolding serror code placeIn names
+unfolding serror code placeIn names kindOf
 returns-4 c =
     let v : ℕ = c .before .before .before .before .args .iss in
-    layout-at serror tests tt v (false ∷ false ∷ passes v (isSet 7) ∷ []) (
+    layout-at serror tests tt v (false ∷ false ∷ passes v (bit 7) ∷ []) (
       passes-bit v 24 _ false (c .before .before .before .as-bit .ensures) (c .before .before .if1 .left),
       (
         fails-one v 0 6 0x11 (λ e. c .if2 .left (c .before .field .ensures ∙ e)),

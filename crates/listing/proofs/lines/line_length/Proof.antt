@@ -8,18 +8,6 @@ use Rattle.listing.proofs.Cases.{length-line}
 use Rattle.listing.proofs.lines.line_length.Statement.{statement}
 use Rattle.listing.proofs.lines.line_length.Tie as tie
 
-length-in-requires : tie.Need-length-in-requires
-length-in-requires c κs = search needs
-
-cast-name : tie.Need-cast-name
-cast-name c = search needs
-
-add-result : tie.Need-add-result
-add-result c = search needs
-
-field-length-requires : tie.Need-field-length-requires
-field-length-requires c κs = search needs
-
 add-result-2 : tie.Need-add-result-2
 add-result-2 c =
     let a = c .before .before .before .args in
@@ -34,4 +22,4 @@ returns c =
 pub line-length-spec : {M : Type 1} → statement M
 line-length-spec =
     tie.close
-    (tie.spec length-in-requires cast-name add-result field-length-requires add-result-2 returns)
+    (tie.spec (λ c κs. search needs) (λ c. search needs) (λ c. search needs) (λ c κs. search needs) add-result-2 returns)

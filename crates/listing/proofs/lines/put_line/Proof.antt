@@ -10,21 +10,6 @@ use Rattle.listing.proofs.Cases.{length-line}
 use Rattle.listing.proofs.lines.put_line.Statement.{statement}
 use Rattle.listing.proofs.lines.put_line.Tie as tie
 
-put-text-requires : tie.Need-put-text-requires
-put-text-requires c κs = search needs
-
-slice-aggregate-put-bytes : tie.Need-slice-aggregate-put-bytes
-slice-aggregate-put-bytes c = search needs
-
-put-bytes-requires : tie.Need-put-bytes-requires
-put-bytes-requires c κs = search needs
-
-put-field-requires : tie.Need-put-field-requires
-put-field-requires c κs = search needs
-
-same-length : tie.Need-same-length
-same-length c = search needs
-
 returns : tie.Need-returns
 unfolding lineText bytes
 returns c =
@@ -39,9 +24,9 @@ pub put-line-spec : {M : Type 1} → statement M
 put-line-spec =
     tie.close
     (tie.spec
-    put-text-requires
-    slice-aggregate-put-bytes
-    put-bytes-requires
-    put-field-requires
-    same-length
+    (λ c κs. search needs)
+    (λ c. search needs)
+    (λ c κs. search needs)
+    (λ c κs. search needs)
+    (λ c. search needs)
     returns)

@@ -4,15 +4,9 @@ use borrow.Author.Needs.{needs}
 use Rattle.records.proofs.Row.get.Statement.{statement}
 use Rattle.records.proofs.Row.get.Tie as tie
 
-field-requires : tie.Need-field-requires
-field-requires c κs = search needs
-
-text-code-requires : tie.Need-text-code-requires
-text-code-requires c κs = search needs
-
 returns : tie.Need-returns
 unfolding recordOf
 returns c = cc
 
 pub get-spec : {M : Type 1} → statement M
-get-spec = tie.close (tie.spec field-requires text-code-requires returns)
+get-spec = tie.close (tie.spec (λ c κs. search needs) (λ c. search needs) (λ c. search needs) (λ c κs. search needs) returns)

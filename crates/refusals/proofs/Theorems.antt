@@ -1,0 +1,48 @@
+-- Every refusal's number is on 01's list, and is that of no other reason: by the cases of the reason, and so of every answer that holds a refusal.
+use mathlib.Core.List.{List, [], _∷_, List·Memᴰ}
+use mathlib.Core.Path.{_≡_, refl, sym, ap, _∙_}
+use Prim.Native.Nat.{ℕ}
+use lib.Dec.{T}
+use lib.ListN.{getD}
+use Rattle.promise.specs.Member.{member}
+use Rattle.promise.proofs.Tests.{of-member}
+use Rattle.refusals.specs.Refusals.{reasonNumber, numbers, refusalNumber}
+use Rattle.refusals.specs.declared.Reason.{Reason}
+use Rattle.refusals.specs.declared.Reason.the-variants.{None, InvalidRes0, InvalidEc, InvalidFsc, InvalidSet, InvalidAet, InvalidAm, InvalidLd64bIss, Empty, InvalidDigit, PosOverflow, ShortBuffer, BadField, BadIndex, ShortEntry, BadLength, BadVersion, Unreached}
+use Rattle.refusals.specs.declared.Refusal.{Refusal}
+
+-- the reasons by number
+abbrev reasons : List Reason
+reasons =
+    None ∷ InvalidRes0 ∷ InvalidEc ∷ InvalidFsc ∷ InvalidSet ∷ InvalidAet ∷ InvalidAm ∷ InvalidLd64bIss ∷ Empty ∷ InvalidDigit ∷ PosOverflow ∷
+    ShortBuffer ∷ BadField ∷ BadIndex ∷ ShortEntry ∷ BadLength ∷ BadVersion ∷ Unreached ∷ []
+
+abbrev Known : Reason → Type 0
+Known reason = T (member (reasonNumber reason) numbers) × (getD reasons (reasonNumber reason) None ≡ reason)
+
+known : (reason : Reason) → Known reason
+unfolding numbers
+known None = (tt, refl)
+known InvalidRes0 = (tt, refl)
+known InvalidEc = (tt, refl)
+known InvalidFsc = (tt, refl)
+known InvalidSet = (tt, refl)
+known InvalidAet = (tt, refl)
+known InvalidAm = (tt, refl)
+known InvalidLd64bIss = (tt, refl)
+known Empty = (tt, refl)
+known InvalidDigit = (tt, refl)
+known PosOverflow = (tt, refl)
+known ShortBuffer = (tt, refl)
+known BadField = (tt, refl)
+known BadIndex = (tt, refl)
+known ShortEntry = (tt, refl)
+known BadLength = (tt, refl)
+known BadVersion = (tt, refl)
+known Unreached = (tt, refl)
+
+pub number-listed : (f : Refusal) → List·Memᴰ (refusalNumber f) numbers
+number-listed f = of-member (refusalNumber f) numbers (known (f .reason) .0)
+
+pub one-reason : (a b : Reason) → reasonNumber a ≡ reasonNumber b → a ≡ b
+one-reason a b e = sym (known a .1) ∙ ap (λ (n : ℕ). getD reasons n None) e ∙ known b .1

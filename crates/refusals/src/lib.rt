@@ -1,0 +1,72 @@
+// 01's refusals: the reason, its number, and what a refusal carries. Nothing lies below but what a promise is.
+ghost use Rattle.refusals.specs.Promises.{Number};
+
+// The reasons, in the order of their numbers; None where nothing is refused.
+pub enum Reason {
+    None,
+    InvalidRes0,
+    InvalidEc,
+    InvalidFsc,
+    InvalidSet,
+    InvalidAet,
+    InvalidAm,
+    InvalidLd64bIss,
+    Empty,
+    InvalidDigit,
+    PosOverflow,
+    ShortBuffer,
+    BadField,
+    BadIndex,
+    ShortEntry,
+    BadLength,
+    BadVersion,
+    Unreached,
+}
+
+impl Reason {
+    // The one place where a reason is told from another.
+    pub fn number(self) -> u8
+        ensures { λ r. ⌜ Number self r ⌝ }
+    {
+        match self {
+            Reason::None => 0,
+            Reason::InvalidRes0 => 1,
+            Reason::InvalidEc => 2,
+            Reason::InvalidFsc => 3,
+            Reason::InvalidSet => 4,
+            Reason::InvalidAet => 5,
+            Reason::InvalidAm => 6,
+            Reason::InvalidLd64bIss => 7,
+            Reason::Empty => 8,
+            Reason::InvalidDigit => 9,
+            Reason::PosOverflow => 10,
+            Reason::ShortBuffer => 11,
+            Reason::BadField => 12,
+            Reason::BadIndex => 13,
+            Reason::ShortEntry => 14,
+            Reason::BadLength => 15,
+            Reason::BadVersion => 16,
+            Reason::Unreached => 17,
+        }
+    }
+}
+
+// A reason and what it carries: 0 where 01 names nothing.
+pub struct Refusal {
+    pub carries: u64,
+    pub reason: Reason,
+}
+
+impl Refusal {
+    pub const NONE: Refusal = Refusal {
+        carries: 0,
+        reason: Reason::None,
+    };
+
+    pub fn number(self) -> u8
+        ensures { λ r. ⌜ Number (self .reason) r ⌝ }
+    {
+        let reason = self.reason;
+        reason.number()
+    }
+}
