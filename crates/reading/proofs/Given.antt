@@ -27,7 +27,7 @@ use Rattle.tables.specs.Tables.{reserved, class, Served, layouts, res0, wf, mcr
 use Rattle.esr.specs.Promises.{Decoded}
 use Rattle.esr.specs.declared.Answer.{Answer}
 use Rattle.reading.specs.Reading.{HasBits, Holding, Fulfils, Meets, Applying, none, there, away, Listed, Allowed, Classed}
-use Rattle.reading.specs.Refusing.{Met, Unmet, notZero, notListed, Asks, Asking, Ordered, none, asked, away, Checks, unserved, served, First, here, later, Refusing}
+use Rattle.reading.specs.Refusing.{Met, Unmet, notZero, notListed, Asking, Ordered, none, asked, away, Checks, unserved, served, First, here, later, Refusing}
 use Rattle.reading.specs.Given.{ClassIn, RowOf, atTop, inIss, Reserved, aborts, debugs, NoStatus, ofAbort, ofDebug, ofSError, AetRead, GivenWhen}
 use Rattle.reading.proofs.HasBits.{bits-is, bits-of}
 use Rattle.reading.proofs.Applies.{says-listed}

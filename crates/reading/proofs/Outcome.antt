@@ -18,8 +18,7 @@ use Rattle.records.specs.Kinds.{kindOf}
 use Rattle.records.specs.Rows.{recordOf, meets, refusalOf, rowKind}
 use Rattle.records.specs.declared.Record.{Record}
 use Rattle.records.specs.declared.Row.{Row}
-use Rattle.tables.specs.Shape.{Table}
-use Rattle.tables.specs.Applying.{rowsFor, checksFor, inOrder}
+use Rattle.tables.specs.Applying.{rowsFor, checksFor}
 use Rattle.tables.specs.Tables.{topRows, reserved, class, Served, layouts}
 use Rattle.tables.proofs.Sound.{Sound, sound, sound-table}
 use Rattle.esr.specs.Decode.{firstFailure, refused, accepted, failureFor, recordsFor, tableAnswer, classOf, issOf, classAnswer, answerOf}

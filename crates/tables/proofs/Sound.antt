@@ -1,5 +1,5 @@
 -- Every table is sound under every outcome of its conditions: one test, which antt computes.
-use mathlib.Core.Path.{_≡_, sym, subst}
+use mathlib.Core.Path.{sym, subst}
 use mathlib.Core.Bool.{Bool, true, false, cond, not, _&&_, _||_}
 use mathlib.Core.List.{List, [], _∷_, map, List·Memᴰ}
 use Prim.Native.Nat.{ℕ, zero, suc, _+_, _^_, _≤_}
@@ -15,7 +15,7 @@ use Rattle.records.specs.Kinds.{Kind, Free, Unchecked, Checked, Coded, kinds, k
 use Rattle.records.specs.Rows.{rowKind}
 use Rattle.records.specs.declared.Row.{Row}
 use Rattle.tables.specs.Shape.{Test, Condition, Line, Table, tests}
-use Rattle.tables.specs.Applying.{passes, keep, rowsFor, checksFor, asks, inOrder}
+use Rattle.tables.specs.Applying.{passes, keep, rowsFor, asks, inOrder}
 use Rattle.tables.specs.Tables.{Served, layouts, res0, wf, mcr, mcrr, ldc, sve, ld64b, bti, pauth, hvc, brk, fp, breakpoint, softwareStep, watchpoint, instructionAbort, dataAbort, serror, undivided}
 use Rattle.tables.proofs.Laws.{same, given, knowsLines, keep-is}
 
