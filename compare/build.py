@@ -2,7 +2,7 @@
 """Builds the Rust that ours is compared with (google/aarch64-esr-decoder, commit 40a497fccc).
 
     compare/build.py oracle [SOURCES]     SOURCES has the decoder's src/; by default ../shared/docs/src beside the repository
-    compare/build.py every|bench [SOURCES]     also that program of sides/, over the decoder and our archive (`rt staticlib door`)
+    compare/build.py every|bench [SOURCES]     also that program of sides/, over the decoder and our archive (`rt staticlib capi`)
     compare/build.py differences [SOURCES]     also that program of sides/, over the decoder in both kinds
 
 The oracle answers lines of standard input (oracle/main.rs). There are two, in target/compare/bin/:
@@ -62,7 +62,7 @@ dead_code = "deny"
 LIBRARY = '\n[lib]\nname = "{name}"\npath = "src/lib.rs"\n'
 LINKED = """fn main() {{
     println!("cargo:rustc-link-search=native={folder}");
-    println!("cargo:rustc-link-lib=static=door");
+    println!("cargo:rustc-link-lib=static=capi");
     println!("cargo:rerun-if-changed={archive}");
 }}
 """
@@ -264,9 +264,9 @@ def sides(name, sources=None):
         folder, cross = DEBIAN, crossing()
         version = ".".join(map(str, version_of(folder / "rustc")))
         print(f"compare: both sides of {name} are built for x86-64, the Rust by rustc {version}, and run under an emulator", flush=True)
-    if subprocess.run(["rt", "staticlib", "door"], cwd=TOP, stdout=subprocess.DEVNULL).returncode:
-        fail("rt staticlib door failed")
-    archive = ARCHIVES / "libdoor.a"
+    if subprocess.run(["rt", "staticlib", "capi"], cwd=TOP, stdout=subprocess.DEVNULL).returncode:
+        fail("rt staticlib capi failed")
+    archive = ARCHIVES / "libcapi.a"
     write(OUT / name / "build.rs", LINKED.format(folder=ARCHIVES, archive=archive))
     program(name, folder, {"decoder": "by-01"}, cross)
     programs = hashlib.sha256(b"".join(path.read_bytes() for path in sorted((HERE / "sides").glob("*.rs")))).hexdigest()

@@ -1,8 +1,8 @@
-/* Arm exception syndromes (ESR_ELx), decoded: the C functions of libdoor.a.
+/* Arm exception syndromes (ESR_ELx), decoded: the C functions of libesr.a.
 
    Every function takes any value, bytes and lengths. It never allocates, keeps no state, and calls nothing but memcpy and memset.
-   Each is proved to answer what its promise says (crates/door/specs/Promises.antt); what is said here is that promise in words. The layout
-   of the structs below is not proved: the assertions at the end and tools/door hold it against the archive.
+   Each is proved to answer what its promise says (crates/capi/specs/Promises.antt); what is said here is that promise in words. The layout
+   of the structs below is not proved: the assertions at the end and tools/capi hold it against the archive.
 
    What the caller owes: a pointer that is not null, also where the length is 0, to as many elements as the length says, which nothing else
    writes during the call. C99. The archive is for little-endian x86-64. */
@@ -29,7 +29,7 @@ enum {
     ESR_EMPTY = 8,             /* a number without characters after any "0x" */
     ESR_INVALID_DIGIT = 9,     /* a number with a character that is not a digit */
     ESR_POS_OVERFLOW = 10,     /* a number past 2^64-1 */
-    ESR_SHORT_BUFFER = 11,     /* what is to be written is longer than the array; the bytes or places needed */
+    ESR_SHORT_BUFFER = 11,     /* what is to be written is longer than the array; the bytes or slots needed */
     ESR_BAD_FIELD = 12,        /* width not 1..64, value not below 2^width, or a message asked for outside 1 to 7 */
     ESR_BAD_INDEX = 13,        /* record index not below the record count; the count */
     ESR_SHORT_ENTRY = 14,      /* fewer bytes than an entry's length takes, or than it says */
@@ -82,16 +82,16 @@ typedef struct esr_entry {
 
 /* Decodes a value into the front of the caller's array: RES0, ISS2, EC, IL and ISS, then ISS's own records, from high bits to low.
    First 37..64 must be 0, then the class is looked up, then its layout's checks in their order; the first failure answers, by 1 to 7. Then
-   an array that has fewer places than there are records is refused by 11, which carries the places needed. A refusal leaves the array as it
-   was; accepted, the places behind the records stay as they were. */
-esr_filled esr_decode(uint64_t esr, esr_record *places, size_t length);
+   an array that has fewer slots than there are records is refused by 11, which carries the slots needed. A refusal leaves the array as it
+   was; accepted, the slots after the records stay as they were. */
+esr_filled esr_decode(uint64_t esr, esr_record *slots, size_t length);
 
-/* Writes the name, long name or text of a code into the front of the buffer, without a 0 behind it. 11 where the text is longer than the
-   buffer, carrying the bytes needed; the buffer then stays as it was. Accepted, the bytes behind the text stay. A code of no text gives
+/* Writes the name, long name or text of a code into the front of the buffer, without a 0 after it. 11 where the text is longer than the
+   buffer, carrying the bytes needed; the buffer then stays as it was. Accepted, the bytes after the text stay. A code of no text gives
    0 bytes. */
 esr_filled esr_text(uint16_t code, uint8_t *buffer, size_t length);
 
-/* The five functions below write a text into the front of the buffer, without a 0 behind it: count is its bytes, and the bytes behind it stay
+/* The five functions below write a text into the front of the buffer, without a 0 after it: count is its bytes, and the bytes after it stay
    as they were. A text longer than the buffer is refused by 11, which carries the bytes needed (so that a length of 0 asks for them); every
    other refusal comes before 11. A refusal leaves the buffer as it was. */
 
@@ -136,7 +136,7 @@ ESR_HOLDS(entry, sizeof(esr_entry) == 40 && offsetof(esr_entry, carried) == 8 &&
 ESR_HOLDS(entry_rest, offsetof(esr_entry, body_length) == 24 && offsetof(esr_entry, sequence) == 32 && offsetof(esr_entry, refusal) == 34);
 #undef ESR_HOLDS
 #if defined(__BYTE_ORDER__) && __BYTE_ORDER__ != __ORDER_LITTLE_ENDIAN__
-#error "a place holds name, long_name, text, start and width as one 64-bit word, whose bytes lie in this order on a little-endian machine alone"
+#error "a slot holds name, long_name, text, start and width as one 64-bit word, whose bytes lie in this order on a little-endian machine alone"
 #endif
 
 #ifdef __cplusplus

@@ -10,7 +10,7 @@
 #[path = "../oracle/answers.rs"]
 mod answers;
 #[allow(dead_code)]
-mod door;
+mod capi;
 
 use answers::{number_of, numbered, parse_refusal, write_fields};
 use decoder::{DecodeError, FieldInfo, decode, parse_number};
@@ -22,7 +22,7 @@ use std::time::Instant;
 
 const INPUTS: usize = 4096;
 const TIMES: usize = 200;
-const PLACE: door::Record = door::Record { value: 0, name: 0, long: 0, text: 0, start: 0, width: 0 };
+const EMPTY: capi::Record = capi::Record { value: 0, name: 0, long: 0, text: 0, start: 0, width: 0 };
 
 type Fields = Result<Vec<FieldInfo>, DecodeError>;
 
@@ -96,15 +96,15 @@ fn rust_decode(values: &[u64]) -> u64 {
 }
 
 fn our_decode(values: &[u64]) -> u64 {
-    let call: fn(u64, &mut [door::Record]) -> door::Filled = black_box(door::decode);
-    let mut places = [PLACE; door::PLACES];
+    let call: fn(u64, &mut [capi::Record]) -> capi::Filled = black_box(capi::decode);
+    let mut slots = [EMPTY; capi::SLOTS];
     values.iter().fold(0, |sum, &esr| {
-        let answer = call(esr, &mut places);
+        let answer = call(esr, &mut slots);
         let sum = sum.wrapping_add(answer.carried).wrapping_add(answer.refusal.into());
-        places[..answer.count].iter().fold(sum, |sum, place| {
-            let codes = u64::from(place.name) + u64::from(place.long) + u64::from(place.text);
-            let bits = u64::from(place.start) + u64::from(place.width);
-            sum.wrapping_add(place.value).wrapping_add(codes).wrapping_add(bits)
+        slots[..answer.count].iter().fold(sum, |sum, slot| {
+            let codes = u64::from(slot.name) + u64::from(slot.long) + u64::from(slot.text);
+            let bits = u64::from(slot.start) + u64::from(slot.width);
+            sum.wrapping_add(slot.value).wrapping_add(codes).wrapping_add(bits)
         })
     })
 }
@@ -122,7 +122,7 @@ fn rust_listing(values: &[u64]) -> u64 {
 }
 
 fn our_listing(values: &[u64]) -> u64 {
-    let call: fn(u64, &mut [u8]) -> door::Filled = black_box(door::listing);
+    let call: fn(u64, &mut [u8]) -> capi::Filled = black_box(capi::listing);
     let mut text = [0; 1 << 14];
     values.iter().fold(0, |sum, &esr| {
         let count = call(esr, &mut text).count;
@@ -140,7 +140,7 @@ fn rust_number(texts: &[String]) -> u64 {
 }
 
 fn our_number(texts: &[String]) -> u64 {
-    let call: fn(&[u8]) -> door::Number = black_box(door::parse_number);
+    let call: fn(&[u8]) -> capi::Number = black_box(capi::parse_number);
     texts.iter().fold(0, |sum, text| {
         let number = call(text.as_bytes());
         sum.wrapping_add(number.value).wrapping_add(number.carried).wrapping_add(number.refusal.into())
@@ -177,11 +177,11 @@ fn timed<T: ?Sized>(name: &str, rounds: usize, inputs: &T, rust: fn(&T) -> u64, 
 
 /// What is timed has to be the same: refusals and counts, listings, numbers.
 fn agree(values: &[u64], texts: &[String]) {
-    let mut places = [PLACE; door::PLACES];
+    let mut slots = [EMPTY; capi::SLOTS];
     let mut text = vec![0; 1 << 14];
     for &esr in values {
-        let ours = door::decode(esr, &mut places);
-        let listed = door::listing(esr, &mut text);
+        let ours = capi::decode(esr, &mut slots);
+        let listed = capi::listing(esr, &mut text);
         let told = (ours.refusal, ours.carried);
         match decode(esr) {
             Err(error) => assert!(told == numbered(&error) && listed.refusal == told.0, "{esr:#x} is refused otherwise"),
@@ -193,7 +193,7 @@ fn agree(values: &[u64], texts: &[String]) {
         }
     }
     for text in texts {
-        let ours = door::parse_number(text.as_bytes());
+        let ours = capi::parse_number(text.as_bytes());
         let rust = parse_number(text).map_or_else(|error| (0, parse_refusal(&error)), |value| (value, 0));
         assert!((ours.value, ours.refusal) == rust, "{text} is read otherwise");
     }

@@ -12,7 +12,7 @@
 mod answers;
 mod digest;
 #[allow(dead_code)]
-mod door;
+mod capi;
 
 use answers::{number_of, numbered, write_records};
 use decoder::{FieldInfo, decode};
@@ -63,12 +63,12 @@ impl Side for Rust {
 /// Ours, with the digest of the text of each code.
 struct Ours(Vec<u64>);
 
-/// The places before those of ISS's own records.
+/// The slots before those of ISS's own records.
 const TOP: usize = 5;
 
 fn said(code: u16) -> Option<Vec<u8>> {
     let mut buffer = vec![0; 1 << 16];
-    let filled = door::text(code, &mut buffer);
+    let filled = capi::text(code, &mut buffer);
     assert!(filled.refusal == 0, "the text {code} is refused");
     buffer.truncate(filled.count);
     (code != 0).then_some(buffer)
@@ -83,31 +83,31 @@ impl Ours {
 
 impl Side for Ours {
     fn digest(&self, esr: u64) -> (u64, bool) {
-        let mut places = [door::Record::default(); door::PLACES];
-        let answer = door::decode(esr, &mut places);
+        let mut slots = [capi::Record::default(); capi::SLOTS];
+        let answer = capi::decode(esr, &mut slots);
         let mut state = digest::refused(answer.refusal, answer.carried);
         if answer.refusal != 0 {
             return (state, false);
         }
-        for (at, place) in places[..answer.count].iter().enumerate() {
-            let strings = [place.name, place.long, place.text].map(|code| self.0[usize::from(code)]);
+        for (at, slot) in slots[..answer.count].iter().enumerate() {
+            let strings = [slot.name, slot.long, slot.text].map(|code| self.0[usize::from(code)]);
             let depth = u64::from(at >= TOP);
-            state = mix(state, digest::record(depth, strings, place.start.into(), place.width.into(), place.value));
+            state = mix(state, digest::record(depth, strings, slot.start.into(), slot.width.into(), slot.value));
         }
         (mix(state, answer.count as u64), true)
     }
 
     fn show(&self, out: &mut impl Write, esr: u64) -> io::Result<()> {
-        let mut places = [door::Record::default(); door::PLACES];
-        let answer = door::decode(esr, &mut places);
+        let mut slots = [capi::Record::default(); capi::SLOTS];
+        let answer = capi::decode(esr, &mut slots);
         writeln!(out, "> {esr:#x}")?;
         if answer.refusal != 0 {
             return writeln!(out, "refused {} carried={:#x}", answer.refusal, answer.carried);
         }
-        for (at, place) in places[..answer.count].iter().enumerate() {
-            let [name, long, text] = [place.name, place.long, place.text]
+        for (at, slot) in slots[..answer.count].iter().enumerate() {
+            let [name, long, text] = [slot.name, slot.long, slot.text]
                 .map(|code| said(code).map_or("-".into(), |text| String::from_utf8_lossy(&text).into_owned()));
-            let door::Record { value, start, width, .. } = place;
+            let capi::Record { value, start, width, .. } = slot;
             writeln!(out, "{}|{name}|{long}|{start}|{width}|{value:#x}|{text}", u8::from(at >= TOP))?;
         }
         Ok(())

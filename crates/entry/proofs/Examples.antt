@@ -4,7 +4,7 @@ use mathlib.Core.Bool.{Bool}
 use mathlib.Core.List.{List, [], _∷_}
 use lib.Dec.{T, eqb}
 use lib.ListN.{replicate}
-use Rattle.entry.specs.BigEndian.{behind}
+use Rattle.entry.specs.BigEndian.{bytesAfter}
 use Rattle.entry.specs.Entries.{judged}
 use Rattle.promise.proofs.Tests.{every}
 use Rattle.refusals.specs.Refusals.{reasonNumber}
@@ -36,8 +36,8 @@ examples =
     []
 
 abbrev holds : ℕ → Example → Bool
-holds place e = eqb (reasonNumber (judged (e .block))) (e .refusal)
+holds offset e = eqb (reasonNumber (judged (e .block))) (e .refusal)
 
 all-hold : T (every holds 0 examples)
-unfolding behind judged
+unfolding bytesAfter judged
 all-hold = tt

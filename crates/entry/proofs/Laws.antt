@@ -12,7 +12,7 @@ use lib.Dec.{ltb, eqb}
 use lib.ListN.{length, getD, take, drop}
 use lib.Seq.{drop-cons, drop-length, length-take-le}
 use borrow.Author.Tests.{lt-ltb, le-ltb, eq-eqb, ne-eqb, ltb-false, eqb-true}
-use Rattle.entry.specs.BigEndian.{behind, bigEndian, bytesAt}
+use Rattle.entry.specs.BigEndian.{bytesAfter, bigEndian, bytesAt}
 use Rattle.entry.specs.Entries.{lengthIn, versionIn, sequenceIn, esrIn, judged, entryOf, bodyOf}
 use Rattle.refusals.specs.Refusals.{bare, noRefusal, reasonNumber}
 use Rattle.refusals.specs.declared.Reason.{Reason}
@@ -31,13 +31,13 @@ room i n b hi h g =
     omega (arith, grows i n b h g)
 
 -- one turn of the loop, and its end
-pub behind-more : (n : ℕ) (s : List ℕ) (i : ℕ) → i < length s → behind n (drop i s) ≡ behind (n * 256 + getD s i 0) (drop (i + 1) s)
-unfolding behind
-behind-more n s i h = rw (add-one, drop-cons s i 0)
+pub bytes-after-more : (n : ℕ) (s : List ℕ) (i : ℕ) → i < length s → bytesAfter n (drop i s) ≡ bytesAfter (n * 256 + getD s i 0) (drop (i + 1) s)
+unfolding bytesAfter
+bytes-after-more n s i h = rw (add-one, drop-cons s i 0)
 
-pub behind-done : (n : ℕ) (s : List ℕ) (i : ℕ) → i ≡ length s → behind n (drop i s) ≡ n
-unfolding behind
-behind-done n s i h = rw (h, drop-length)
+pub bytes-after-done : (n : ℕ) (s : List ℕ) (i : ℕ) → i ≡ length s → bytesAfter n (drop i s) ≡ n
+unfolding bytesAfter
+bytes-after-done n s i h = rw (h, drop-length)
 
 -- a number of k bytes is below 256 ^ k
 pub part-below : (k : ℕ) (l : List ℕ) (r : ℕ) → k ≤ length l → r < 256 ^ length (take k l) → r < 256 ^ k
@@ -45,7 +45,7 @@ part-below k l r h g = rw (length-take-le k l h) at g
 
 -- a byte is its own number
 pub one-byte : (s : List ℕ) (i : ℕ) → i < length s → bigEndian (bytesAt i 1 s) ≡ getD s i 0
-unfolding behind
+unfolding bytesAfter
 one-byte s i h = rw (drop-cons s i 0) (omega arith)
 
 -- The judgement, by the tests that lead to each refusal.
@@ -136,8 +136,8 @@ module _ (s : List ℕ) (bad : reasonNumber (judged s) ≡ 0 → ⊥) where
 
 -- a refusal's number tells whether there is one
 module _ {f g : Reason} {n : ℕ} (e : f ≡ g) (told : n ≡ reasonNumber f) where
-  pub told-sound : n ≡ 0 → reasonNumber g ≡ 0
-  told-sound z = sym (ap reasonNumber e) ∙ sym told ∙ z
+  pub number-sound : n ≡ 0 → reasonNumber g ≡ 0
+  number-sound z = sym (ap reasonNumber e) ∙ sym told ∙ z
 
-  pub told-refused : (n ≡ 0 → ⊥) → reasonNumber g ≡ 0 → ⊥
-  told-refused bad z = bad (told ∙ ap reasonNumber e ∙ z)
+  pub number-refused : (n ≡ 0 → ⊥) → reasonNumber g ≡ 0 → ⊥
+  number-refused bad z = bad (told ∙ ap reasonNumber e ∙ z)

@@ -13,7 +13,7 @@ use lib.Pow.{areBytes}
 use lib.Seq.{drop-drop, length-take-le, take-add}
 use borrow.Author.Tests.{eqb-true, eqb-false}
 use Rattle.entry.proofs.Laws.{Facts, facts, from-facts, entry-sound, entry-refused, body-sound, body-refused}
-use Rattle.entry.specs.BigEndian.{behind, bigEndian, bytesAt, written}
+use Rattle.entry.specs.BigEndian.{bytesAfter, bigEndian, bytesAt, written}
 use Rattle.entry.specs.Entries.{sequenceIn, esrIn, judged, sound, entryOf, bodyOf, bodyBytes, entryBytes}
 use Rattle.entry.specs.declared.Entry.{Entry}
 use Rattle.promise.proofs.Tests.{both-left, both-right, both-intro}
@@ -21,34 +21,34 @@ use Rattle.refusals.specs.Refusals.{bare, noRefusal, reasonNumber, refusalNumbe
 
 -- Numbers and their bytes.
 
-behind-div : (n : ℕ) (s : List ℕ) → T (areBytes s) → behind n s / 256 ^ length s ≡ n
-unfolding behind
-behind-div n [] t = div-one n
-behind-div n (b ∷ s) t =
-    ap (λ (m : ℕ). behind (n * 256 + b) s / m) (pow-suc 256 (length s))
-    ∙ sym (div-div-eq-div-mul (behind (n * 256 + b) s) (256 ^ length s) 256)
-    ∙ ap (λ (m : ℕ). m / 256) (behind-div (n * 256 + b) s (both-right (ltb b 256) (areBytes s) t))
+bytes-after-div : (n : ℕ) (s : List ℕ) → T (areBytes s) → bytesAfter n s / 256 ^ length s ≡ n
+unfolding bytesAfter
+bytes-after-div n [] t = div-one n
+bytes-after-div n (b ∷ s) t =
+    ap (λ (m : ℕ). bytesAfter (n * 256 + b) s / m) (pow-suc 256 (length s))
+    ∙ sym (div-div-eq-div-mul (bytesAfter (n * 256 + b) s) (256 ^ length s) 256)
+    ∙ ap (λ (m : ℕ). m / 256) (bytes-after-div (n * 256 + b) s (both-right (ltb b 256) (areBytes s) t))
     ∙ digits-div n (ltb→lt b 256 (both-left (ltb b 256) (areBytes s) t))
 
 -- bytes are written again from their number, whatever stood before them
-written-behind : (n : ℕ) (s : List ℕ) → T (areBytes s) → written (length s) (behind n s) ≡ s
-unfolding behind written
-written-behind n [] t = refl
-written-behind n (b ∷ s) t =
+written-after : (n : ℕ) (s : List ℕ) → T (areBytes s) → written (length s) (bytesAfter n s) ≡ s
+unfolding bytesAfter written
+written-after n [] t = refl
+written-after n (b ∷ s) t =
     let more : T (areBytes s) = both-right (ltb b 256) (areBytes s) t in
     ap₂ (_∷_)
-    (ap (λ (m : ℕ). m % 256) (behind-div (n * 256 + b) s more)
+    (ap (λ (m : ℕ). m % 256) (bytes-after-div (n * 256 + b) s more)
     ∙ digits-mod n (ltb→lt b 256 (both-left (ltb b 256) (areBytes s) t)))
-    (written-behind (n * 256 + b) s more)
+    (written-after (n * 256 + b) s more)
 
 -- and a number is read again from its bytes
-behind-written : (n k v : ℕ) → behind n (written k v) ≡ n * 256 ^ k + v % 256 ^ k
-unfolding behind written
-behind-written n zero v = omega (arith, mod-one v)
-behind-written n (suc k) v =
+bytes-after-written : (n k v : ℕ) → bytesAfter n (written k v) ≡ n * 256 ^ k + v % 256 ^ k
+unfolding bytesAfter written
+bytes-after-written n zero v = omega (arith, mod-one v)
+bytes-after-written n (suc k) v =
     let p : ℕ = 256 ^ k in
     let d : ℕ = v / p % 256 in
-    behind-written (n * 256 + d) k v
+    bytes-after-written (n * 256 + d) k v
     ∙ rw (
       add-mul (n * 256) d p,
       mul-assoc n 256 p,
@@ -58,7 +58,7 @@ behind-written n (suc k) v =
     (omega arith)
 
 pub read-written : (k v : ℕ) → v < 256 ^ k → bigEndian (written k v) ≡ v
-read-written k v h = behind-written 0 k v ∙ omega (arith, mod-eq-of-lt h)
+read-written k v h = bytes-after-written 0 k v ∙ omega (arith, mod-eq-of-lt h)
 
 -- Parts of a block.
 
@@ -75,16 +75,16 @@ drop-bytes (suc n) [] t = tt
 drop-bytes (suc n) (b ∷ s) t = drop-bytes n s (both-right (ltb b 256) (areBytes s) t)
 
 -- bytes that a block has are written again from their number
-part-written : (place count : ℕ) (s : List ℕ) → T (areBytes s) → place + count ≤ length s
-    → written count (bigEndian (bytesAt place count s)) ≡ bytesAt place count s
-part-written place count s t h =
-    let p : List ℕ = bytesAt place count s in
-    let l : length p ≡ count = length-take-le count (drop place s) (omega (arith, length-drop place s)) in
-    ap (λ (n : ℕ). written n (bigEndian p)) (sym l) ∙ written-behind 0 p (take-bytes count (drop place s) (drop-bytes place s t))
+part-written : (offset count : ℕ) (s : List ℕ) → T (areBytes s) → offset + count ≤ length s
+    → written count (bigEndian (bytesAt offset count s)) ≡ bytesAt offset count s
+part-written offset count s t h =
+    let p : List ℕ = bytesAt offset count s in
+    let l : length p ≡ count = length-take-le count (drop offset s) (omega (arith, length-drop offset s)) in
+    ap (λ (n : ℕ). written n (bigEndian p)) (sym l) ∙ written-after 0 p (take-bytes count (drop offset s) (drop-bytes offset s t))
 
--- two parts, one behind the other, are one
-parts : (place m n : ℕ) (s : List ℕ) → bytesAt place (m + n) s ≡ bytesAt place m s ++ bytesAt (place + m) n s
-parts place m n s = take-add m n (drop place s) ∙ ap (λ (l : List ℕ). take m (drop place s) ++ take n l) (drop-drop m place s)
+-- two parts, one after the other, are one
+parts : (offset m n : ℕ) (s : List ℕ) → bytesAt offset (m + n) s ≡ bytesAt offset m s ++ bytesAt (offset + m) n s
+parts offset m n s = take-add m n (drop offset s) ∙ ap (λ (l : List ℕ). take m (drop offset s) ++ take n l) (drop-drop m offset s)
 
 -- Entries.
 
@@ -144,7 +144,7 @@ entry-of-numbers s t e =
 -- every sequence and every ESR has an entry, and it is read whatever follows: a reader that refuses all would not do
 pub written-is-read : (sequence esr : ℕ) (rest : List ℕ) → sequence < 256 ^ 2 → esr < 256 ^ 8
     → entryOf (entryBytes sequence esr ++ rest) ≡ record { esr = esr; refusal = noRefusal; sequence = sequence }
-unfolding behind written
+unfolding bytesAfter written
 written-is-read sequence esr rest hs he =
     let s : List ℕ = entryBytes sequence esr ++ rest in
     let f : Facts s = record { long = omega arith; eleven = refl; first = refl } in

@@ -3,17 +3,17 @@ use Prim.Native.Nat.{ℕ, zero, suc, _+_, _*_, _/_, _%_, _^_}
 use mathlib.Core.List.{List, [], _∷_}
 use lib.ListN.{take, drop}
 
--- the number that bytes make behind those of n
-unfoldable pub behind : ℕ → List ℕ → ℕ
-behind n [] = n
-behind n (b ∷ bs) = behind (n * 256 + b) bs
+-- the number that bytes make after those of n
+unfoldable pub bytesAfter : ℕ → List ℕ → ℕ
+bytesAfter n [] = n
+bytesAfter n (b ∷ bs) = bytesAfter (n * 256 + b) bs
 
 abbrev pub bigEndian : List ℕ → ℕ
-bigEndian s = behind 0 s
+bigEndian s = bytesAfter 0 s
 
--- some bytes of a block, from a place on
+-- some bytes of a block, from a offset on
 abbrev pub bytesAt : ℕ → ℕ → List ℕ → List ℕ
-bytesAt place count s = take count (drop place s)
+bytesAt offset count s = take count (drop offset s)
 
 -- a number written in some bytes
 unfoldable pub written : ℕ → ℕ → List ℕ

@@ -11,7 +11,7 @@ use Rattle.refusals.specs.Refusals.{bare, noRefusal, passed}
 use Rattle.refusals.specs.declared.Reason.{Reason}
 use Rattle.refusals.specs.declared.Reason.the-variants.{None, ShortEntry, BadLength, BadVersion}
 
--- the numbers of a block, each by its place and how many bytes it has
+-- the numbers of a block, each by its offset and how many bytes it has
 abbrev pub lengthIn : List ℕ → ℕ
 lengthIn s = bigEndian (bytesAt 0 2 s)
 
@@ -53,20 +53,20 @@ bodyOf s = cond (sound s) (bytesAt 2 11 s) []
 -- bytes in memory: which piece of memory they lie in, where they begin there, and what they are
 pub record Part : Type 0 where
   pub memory : ℕ
-  pub place : ℕ
+  pub offset : ℕ
   pub bytes : List ℕ
 
 -- the bytes that a reference lends
 abbrev pub lent : RefT (List ℕ) → Part
-lent r = record { memory = r .ptr .0; place = r .ptr .1; bytes = r .now }
+lent r = record { memory = r .ptr .0; offset = r .ptr .1; bytes = r .now }
 
--- where the body begins: behind the length; on a refusal where the block does
+-- where the body begins: after the length; on a refusal where the block does
 abbrev pub bodyStart : List ℕ → ℕ
 bodyStart s = cond (sound s) 2 0
 
--- the body is those same bytes of the block: in its memory, as far behind its place as the body begins
+-- the body is those same bytes of the block: in its memory, as far after its offset as the body begins
 abbrev pub bodyIn : Part → Part
-bodyIn block = record { memory = block .memory; place = bodyStart (block .bytes) + block .place; bytes = bodyOf (block .bytes) }
+bodyIn block = record { memory = block .memory; offset = bodyStart (block .bytes) + block .offset; bytes = bodyOf (block .bytes) }
 
 -- An entry written from its numbers.
 

@@ -27,7 +27,7 @@ use Rattle.tables.specs.Tables.{topRows, reserved, Served, layouts, undivided}
 use Rattle.layouts.specs.Layouts.{layoutRoom, pad, layoutFor}
 use Rattle.layouts.specs.Layouts.{tablesOf, tableOf, empty, numberIn, layoutNumber}
 use Rattle.layouts.specs.declared.Layout.{Layout}
-use Rattle.layouts.proofs.Places.{rowsAt, layout-rows, few-rows}
+use Rattle.layouts.proofs.Indices.{rowsAt, layout-rows, few-rows}
 use Rattle.esr.specs.Decode.{firstFailure, refused, accepted, failureFor, recordsFor, tableAnswer, classOf, issOf, classAnswer, answerOf}
 use Rattle.esr.specs.declared.Answer.{Answer}
 
@@ -64,7 +64,7 @@ walk-count v s rows i h k =
     let l : length (map (recordOf v) (take i rows)) ≡ i = length-map (take i rows) (recordOf v) ∙ length-take-le i rows h in
     omega (arith, pushed-count s (map (recordOf v) (take i rows)) (omega arith))
 
--- a row's record written behind those of the rows before it
+-- a row's record written after those of the rows before it
 pub walk-more : (v : ℕ) (s out : Records) (rows : List Row) (i : ℕ) (x : Record)
     → out ≡ pushedAll s (map (recordOf v) (take i rows)) → x ≡ recordOf v (getD rows i pad)
     → i < length rows → s .count + i < setRoom
@@ -78,7 +78,7 @@ walk-more v s out rows i x o e h k =
     (sym (map-append (recordOf v) (take i rows) (getD rows i pad ∷ []))
     ∙ ap (map (recordOf v)) (sym (take-suc rows i pad h) ∙ ap (λ (m : ℕ). take m rows) (sym (add-one i))))
 
--- the top records and ISS's own behind them are all records of the table
+-- the top records and ISS's own after them are all records of the table
 unfoldable pub walked : Records → ℕ → Layout → Records
 walked top iss l = pushedAll top (map (recordOf iss) (take (l .count) (l .rows)))
 
@@ -111,7 +111,7 @@ module _ (t : Table) (esr iss : ℕ) (f : Refusal) (is : f ≡ failureFor t iss)
   unfolding tableAnswer
   read-passes h = rw (← is) (rw (eq-eqb (refusalNumber f) 0 h) refl)
 
--- "acceptance of a class equals a filled place": the class table's number is counted as the class is looked up, among layouts numbered from n.
+-- "acceptance of a class equals a filled index": the class table's number is counted as the class is looked up, among layouts numbered from n.
 data LookedUp (esr n : ℕ) (ss : List Served) : Type 0 where
   missing : numberIn n ss (classOf esr) ≡ empty → classAnswer ss esr ≡ refused (carrying InvalidEc (classOf esr)) → LookedUp esr n ss
   found : (k : ℕ) → k < length ss → numberIn n ss (classOf esr) ≡ n + k → classAnswer ss esr ≡ tableAnswer (getD (tablesOf ss) k undivided) esr (issOf esr)
@@ -137,7 +137,7 @@ nineteen : length layouts ≡ 19
 unfolding layouts
 nineteen = refl
 
--- A class is served exactly if its place is filled.
+-- A class is served exactly if its index is filled.
 
 number-less : (n c : ℕ) (s : Served) (ss : List Served) → List·Memᴰ s ss → T (member c (s .classes)) → numberIn n ss c < n + length ss
 number-less n c s (x ∷ xs) (List·Memᴰ·head e) t =
@@ -214,7 +214,7 @@ module _ (P : Answer → Type 0) (bad : (f : Refusal) → P (refused f)) where
   answer-has good esr =
       either (meets esr reserved) (classAnswer layouts esr) (refused (refusalOf esr reserved)) (class-has layouts good esr) (bad (refusalOf esr reserved))
 
--- Every set that the decoder gives has room for what it counts: a set is a list and the empty places behind it, and its places are 19.
+-- Every set that the decoder gives has room for what it counts: a set is a list and the empty indices after it, and its indices are 19.
 
 abbrev pub Roomy : Answer → Type 0
 Roomy a = length (a .records .items) ≡ setRoom → a .records .count ≤ setRoom

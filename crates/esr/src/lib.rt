@@ -153,8 +153,8 @@ fn first_failure(number: u8, iss: u64) -> Refusal
     let layout = layouts::layout_of(number, iss);
     let mut i: usize = 0;
     while i < layout.checked as usize {
-        let place = layout.checks[i] as usize;
-        let row = layout.rows[place];
+        let index = layout.checks[i] as usize;
+        let row = layout.rows[index];
         if !row.meets(iss) {
             return row.refusal(iss);
         }

@@ -1,6 +1,6 @@
 // A value on each line of standard input: the listing or the refusal of each, named where there are more than one.
-use answers::Kind;
+use cli::Kind;
 
 fn main() {
-    answers::answer(Kind::Listing);
+    cli::answer(Kind::Listing);
 }

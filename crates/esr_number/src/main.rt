@@ -1,6 +1,6 @@
 // A number on each line of standard input: `ok 0xH` or `refused N` for each.
-use answers::Kind;
+use cli::Kind;
 
 fn main() {
-    answers::answer(Kind::Number);
+    cli::answer(Kind::Number);
 }

@@ -1,6 +1,6 @@
 // A value on each line of standard input: a canonical block for each, the refusal or a line for each record.
-use answers::Kind;
+use cli::Kind;
 
 fn main() {
-    answers::answer(Kind::Records);
+    cli::answer(Kind::Records);
 }

@@ -10,7 +10,7 @@ use Rattle.records.specs.Bits.{fieldOf}
 use Rattle.records.specs.declared.Row.{Row}
 use Rattle.tables.specs.Shape.{Test, Table, bit, isExternal, externals}
 use Rattle.tables.specs.Applying.{passes, keep, rowsFor}
-use Rattle.layouts.specs.Layouts.{placesOf, laid, layoutFor}
+use Rattle.layouts.specs.Layouts.{indicesOf, laid, layoutFor}
 use Rattle.layouts.specs.declared.Layout.{Layout}
 use Rattle.tables.proofs.Laws.{given, knowsLines, keep-is}
 
@@ -29,7 +29,7 @@ answers v (t ∷ ts) (b ∷ bs) a = ap₂ _∷_ (a .0) (answers v ts bs (a .1))
 
 -- the layout at known answers of the tests
 abbrev pub laidBy : Table → List Row → Layout
-laidBy t rows = laid rows (placesOf rows (t .order)) (t .issRule)
+laidBy t rows = laid rows (indicesOf rows (t .order)) (t .issRule)
 
 pub layout-at : (t : Table) (ts : List Test) → T (knowsLines ts (t .lines)) → (v : ℕ) (bs : List Bool) → Answers v ts bs
     → laidBy t (keep (given ts bs) (t .lines)) ≡ layoutFor t v
@@ -50,9 +50,9 @@ module _ (v s w n : ℕ) where
   fails-one h = ap (λ (b : Bool). cond b true false) (ne-eqb (fieldOf v s w) n h)
 
 -- a bit, as as_bit gives it
-pub passes-bit : (v place : ℕ) (b t : Bool) → b ≡ eqb (fieldOf v place 1) 1 → b ≡ t → passes v (bit place) ≡ t
-passes-bit v place b true e h = passes-one v place 1 1 (eqb-true (fieldOf v place 1) 1 (sym e ∙ h))
-passes-bit v place b false e h = fails-one v place 1 1 (eqb-false (fieldOf v place 1) 1 (sym e ∙ h))
+pub passes-bit : (v position : ℕ) (b t : Bool) → b ≡ eqb (fieldOf v position 1) 1 → b ≡ t → passes v (bit position) ≡ t
+passes-bit v position b true e h = passes-one v position 1 1 (eqb-true (fieldOf v position 1) 1 (sym e ∙ h))
+passes-bit v position b false e h = fails-one v position 1 1 (eqb-false (fieldOf v position 1) 1 (sym e ∙ h))
 
 pub passes-external : (v x : ℕ) (b : Bool) → x ≡ fieldOf v 0 6 → b ≡ member x externals → passes v isExternal ≡ b
 unfolding passes

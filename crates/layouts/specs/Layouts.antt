@@ -1,4 +1,4 @@
--- A table's rows in the arrays of a layout, as the code hands them on: the rows that apply, the places of those to check, and padding.
+-- A table's rows in the arrays of a layout, as the code hands them on: the rows that apply, the indices of those to check, and padding.
 use Prim.Native.Nat.{ℕ, suc, _-_}
 use mathlib.Core.Bool.{cond}
 use mathlib.Core.List.{List, [], _∷_, _++_}
@@ -8,21 +8,21 @@ use Rattle.texts.specs.Rules.{plain}
 use Rattle.records.specs.Kinds.{Free, kindNumber}
 use Rattle.records.specs.declared.Row.{Row}
 use Rattle.tables.specs.Shape.{Table}
-use Rattle.tables.specs.Applying.{asking, rowsFor}
+use Rattle.tables.specs.Applying.{isCheckAt, rowsFor}
 use Rattle.tables.specs.Tables.{Served, layouts, undivided}
 use Rattle.layouts.specs.declared.Layout.{Layout}
 
--- the place of the row that starts at s and asks something, counted from n; none where there is no such row
-abbrev pub placeOf : ℕ → List Row → ℕ → List ℕ
-placeOf n [] s = []
-placeOf n (r ∷ rs) s = cond (asking s r) (n ∷ []) (placeOf (suc n) rs s)
+-- the index of the row that starts at s and asks something, counted from n; none where there is no such row
+abbrev pub indexOf : ℕ → List Row → ℕ → List ℕ
+indexOf n [] s = []
+indexOf n (r ∷ rs) s = cond (isCheckAt s r) (n ∷ []) (indexOf (suc n) rs s)
 
--- the places of the rows to check, in the order of these starts
-abbrev pub placesOf : List Row → List ℕ → List ℕ
-placesOf rows [] = []
-placesOf rows (s ∷ ss) = placeOf 0 rows s ++ placesOf rows ss
+-- the indices of the rows to check, in the order of these starts
+abbrev pub indicesOf : List Row → List ℕ → List ℕ
+indicesOf rows [] = []
+indicesOf rows (s ∷ ss) = indexOf 0 rows s ++ indicesOf rows ss
 
--- a place behind the rows holds a row of no name, and one behind the checks 0
+-- a index after the rows holds a row of no name, and one after the checks 0
 abbrev pub layoutRoom : ℕ
 layoutRoom = 14
 
@@ -40,9 +40,9 @@ laid rows checks rule =
     }
 
 unfoldable pub layoutFor : Table → ℕ → Layout
-layoutFor t v = laid (rowsFor t v) (placesOf (rowsFor t v) (t .order)) (t .issRule)
+layoutFor t v = laid (rowsFor t v) (indicesOf (rowsFor t v) (t .order)) (t .issRule)
 
--- The layouts by number, as the code names them: a layout's number is its place in the list of tables.
+-- The layouts by number, as the code names them: a layout's number is its index in the list of tables.
 
 -- the table of a number; past the last, the undivided one
 abbrev pub tablesOf : List Served → List Table

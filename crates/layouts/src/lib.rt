@@ -23,7 +23,7 @@ mod serror;
 mod sve;
 mod wf;
 
-// The rows of ISS from high bits to low; the places of those to check, in order; how many there are of each; the rule of ISS's own text.
+// The rows of ISS from high bits to low; the indices of those to check, in order; how many there are of each; the rule of ISS's own text.
 // 115 bytes with no gap, so that a layout is copied as one block.
 pub struct Layout {
     pub rows: [Row; Records::ISS_MAX],

@@ -13,16 +13,17 @@ use Rattle.esr.specs.Decode.{answerOf}
 use Rattle.esr.specs.declared.Answer.{Answer}
 use Rattle.esr.proofs.Laws.{answer-room}
 use Rattle.strings.specs.Outcomes.{refused, text}
-use Rattle.listing.specs.Asked.{lineIn, recordLine, listingWith, listingOf}
-use Rattle.listing.specs.Listings.{inPool, lineText, listingFrom}
+use Rattle.listing.specs.Requested.{lineIn, recordLine, listingOf}
+use Rattle.display.specs.Listings.{lineText, listingFrom}
+use Rattle.texts.specs.Pool.{bytesAt}
 
 module _ (esr : ℕ) {a : Answer} {n : ℕ} (is : a ≡ answerOf esr) (by : n ≡ refusalNumber (a .refusal)) where
   pub listing-no : (n ≡ 0 → ⊥) → listingOf esr ≡ refused (a .refusal)
-  unfolding listingWith
+  unfolding listingOf
   listing-no h = rw (← is, ne-eqb (refusalNumber (a .refusal)) 0 (λ e. h (by ∙ e)))
 
-  pub listing-yes : n ≡ 0 → listingOf esr ≡ text (listingFrom inPool 0 (listOf (a .records)))
-  unfolding listingWith
+  pub listing-yes : n ≡ 0 → listingOf esr ≡ text (listingFrom bytesAt 0 (listOf (a .records)))
+  unfolding listingOf
   listing-yes h = rw (← is, eq-eqb (refusalNumber (a .refusal)) 0 (sym by ∙ h))
 
   pub line-refused : (n ≡ 0 → ⊥) → (index : ℕ) → recordLine esr index ≡ refused (a .refusal)
@@ -34,9 +35,9 @@ module _ (esr : ℕ) {a : Answer} {n : ℕ} (is : a ≡ answerOf esr) (by : n �
   line-in h index = rw (← is, eq-eqb (refusalNumber (a .refusal)) 0 (sym by ∙ h))
 
   -- a set has room for what it counts
-  module _ (places : length (a .records .items) ≡ setRoom) where
+  module _ (slots : length (a .records .items) ≡ setRoom) where
     pub room : a .records .count ≤ setRoom
-    room = subst (λ (x : Answer). length (x .records .items) ≡ setRoom → x .records .count ≤ setRoom) (sym is) (answer-room esr) places
+    room = subst (λ (x : Answer). length (x .records .items) ≡ setRoom → x .records .count ≤ setRoom) (sym is) (answer-room esr) slots
 
     counted : length (listOf (a .records)) ≡ a .records .count
     counted = length-take-le (a .records .count) (a .records .items) (omega (arith, room))
@@ -46,7 +47,7 @@ module _ (esr : ℕ) {a : Answer} {n : ℕ} (is : a ≡ answerOf esr) (by : n �
     line-no h index past = line-in h index ∙ rw (counted, le-ltb index (a .records .count) past)
 
     pub line-yes : n ≡ 0 → (index : ℕ) → index < a .records .count → (r : Record) → r ≡ recordAt (a .records) index
-        → recordLine esr index ≡ text (lineText r)
+        → recordLine esr index ≡ text (lineText bytesAt r)
     unfolding lineIn recordAt
     line-yes h index within r e =
         let small : index < setRoom = omega (arith, room) in

@@ -1,9 +1,9 @@
 -- No listing is longer than `listingMost`: a row's lines are no longer than with the longest text of its rule, whatever the value is, and one
 -- computed test adds up the rows of each table under every outcome of its conditions.
-use mathlib.Core.Path.{_≡_, refl, ap}
+use mathlib.Core.Path.{_≡_, refl, sym, ap, subst}
 use mathlib.Core.Bool.{Bool, true, false, cond}
 use mathlib.Core.List.{List, [], _∷_, _++_, map, List·Memᴰ}
-use Prim.Native.Nat.{ℕ, suc, _+_, _-_, _/_, _≤_, max}
+use Prim.Native.Nat.{ℕ, suc, _+_, _-_, _/_, _^_, _≤_, _<_, max}
 use native.Mathlib.Nat.{le-max-left, le-max-right}
 use native.Mathlib.Omega.{arith}
 use lib.Dec.{T, eqb, leb, leb→le}
@@ -12,8 +12,8 @@ use lib.Seq.{take-append-seam}
 use Rattle.promise.proofs.Tests.{every, every-mem, is-true}
 use Rattle.texts.specs.Names.{names}
 use Rattle.texts.specs.Rules.{Text, rules}
-use Rattle.texts.specs.Pool.{bytes, bytesAt, code, placeIn, texts, textAt, textIn, onList, ruleAt, sayingOf, says, firstOf, textCode}
-use Rattle.texts.proofs.Laws.{text-said}
+use Rattle.texts.specs.Pool.{bytes, bytesAt, code, indexIn, texts, textAt, textIn, onList, ruleAt, descriptionOf, describes, firstOf, textCode}
+use Rattle.texts.proofs.Laws.{text-described, text-short}
 use Rattle.refusals.specs.Refusals.{passed}
 use Rattle.records.specs.Rows.{recordOf}
 use Rattle.records.specs.Sets.{setRoom, noRecord, recordsOf, listOf}
@@ -26,11 +26,11 @@ use Rattle.esr.specs.Decode.{refused, accepted, recordsFor, answerOf}
 use Rattle.esr.specs.declared.Answer.{Answer}
 use Rattle.esr.proofs.Laws.{answer-has}
 use Rattle.strings.specs.Outcomes as outcome
-use Rattle.strings.proofs.Cases.{field-most}
-use Rattle.listing.specs.Asked.{listingWith, listingOf}
-use Rattle.listing.specs.Listings.{inPool, indentAt, textLine, recordLines, listingFrom}
+use Rattle.strings.proofs.Cases.{field-most, field-short}
+use Rattle.listing.specs.Requested.{listingOf}
+use Rattle.display.specs.Listings.{indentAt, lineText, textLine, recordLines, listingFrom}
 use Rattle.listing.specs.Longest.{listingMost}
-use Rattle.listing.proofs.Cases.{length-line, text-none, length-some, length-lines}
+use Rattle.display.proofs.Cases.{length-line, text-none, length-some, length-lines}
 
 -- the most bytes of a text line whose text is one of these, with so many bytes beside the text; no line where there is no text
 unfoldable textMost : ℕ → List Text → ℕ
@@ -54,10 +54,10 @@ rowsMost index (r ∷ rs) = rowMost index r + rowsMost (suc index) rs
 
 -- A row.
 
-said-most : (beside : ℕ) (ts : List Text) (v : ℕ) → T (onList ts v) → beside + length (bytes (textIn ts v)) ≤ textMost beside ts
+described-most : (beside : ℕ) (ts : List Text) (v : ℕ) → T (onList ts v) → beside + length (bytes (textIn ts v)) ≤ textMost beside ts
 unfolding onList textIn textMost
-said-most beside [] v t = absurd t
-said-most beside (x ∷ xs) v t = by (eqb v (x .value)) t (said-most beside xs v)
+described-most beside [] v t = absurd t
+described-most beside (x ∷ xs) v t = by (eqb v (x .value)) t (described-most beside xs v)
   where
     by : (b : Bool) → T (cond b true (onList xs v)) → (T (onList xs v) → beside + length (bytes (textIn xs v)) ≤ textMost beside xs)
         → beside + length (bytes (cond b (x .text) (textIn xs v))) ≤ max (beside + length (bytes (x .text))) (textMost beside xs)
@@ -66,33 +66,33 @@ said-most beside (x ∷ xs) v t = by (eqb v (x .value)) t (said-most beside xs v
 
 module _ (index rule value : ℕ) where
   abbrev Fits : Type 0
-  Fits = length (textLine (indentAt index) (inPool (textCode rule value))) ≤ textMost (length (indentAt index) + 3) (ruleAt rule .texts)
+  Fits = length (textLine bytesAt index (textCode rule value)) ≤ textMost (length (indentAt index) + 3) (ruleAt rule .texts)
 
   text-most : Fits
-  unfolding textCode firstOf says bytesAt sayingOf
-  text-most = by (says rule value) refl
+  unfolding textCode firstOf describes bytesAt descriptionOf
+  text-most = by (describes rule value) refl
     where
-      by : (b : Bool) → says rule value ≡ b → Fits
+      by : (b : Bool) → describes rule value ≡ b → Fits
       by true e =
           let coded : textCode rule value ≡ firstOf rule + value = rw e in
           omega (
             arith,
-            length-some index (textCode rule value) (λ z. omega (arith, coded, z)),
-            ap (λ s. length (bytes s)) (text-said rule value),
-            said-most (length (indentAt index) + 3) (ruleAt rule .texts) value (is-true e),
+            length-some bytesAt index (textCode rule value) (λ z. omega (arith, coded, z)),
+            ap (λ s. length (bytes s)) (text-described rule value),
+            described-most (length (indentAt index) + 3) (ruleAt rule .texts) value (is-true e),
           )
-      by false e = omega (arith, ap length (text-none index (textCode rule value) (rw e)))
+      by false e = omega (arith, ap length (text-none bytesAt index (textCode rule value) (rw e)))
 
 -- the lines of a row, for every value
-row-most : (index v : ℕ) (row : Row) → length (recordLines inPool index (recordOf v row)) ≤ rowMost index row
+row-most : (index v : ℕ) (row : Row) → length (recordLines bytesAt index (recordOf v row)) ≤ rowMost index row
 unfolding rowMost valueMost recordOf
 row-most index v row =
     let r : Record = recordOf v row in
-    omega (arith, length-lines index r, length-line r, field-most (r .width) (r .value), text-most index (row .rule) (r .value))
+    omega (arith, length-lines bytesAt index r, length-line bytesAt r, field-most (r .width) (r .value), text-most index (row .rule) (r .value))
 
 -- of rows: the first ones of the value, the others of its ISS
 rows-most : (index esr iss : ℕ) (top own : List Row)
-    → length (listingFrom inPool index (map (recordOf esr) top ++ map (recordOf iss) own)) ≤ rowsMost index (top ++ own)
+    → length (listingFrom bytesAt index (map (recordOf esr) top ++ map (recordOf iss) own)) ≤ rowsMost index (top ++ own)
 unfolding listingFrom rowsMost
 rows-most index esr iss [] [] = omega arith
 rows-most index esr iss [] (r ∷ rs) = rw length-append (omega (arith, row-most index iss r, rows-most (suc index) esr iss [] rs))
@@ -108,11 +108,11 @@ shortServed i s = always (shortRows (s .table .issRule)) (s .table)
 
 -- the computed test
 all-short : T (every shortServed 0 layouts)
-unfolding layouts res0 wf mcr mcrr ldc sve ld64b bti pauth hvc brk fp breakpoint softwareStep watchpoint instructionAbort dataAbort serror undivided topRows names rules code placeIn ruleAt texts textAt bytesAt bytes indentAt rowsMost rowMost valueMost textMost
+unfolding layouts res0 wf mcr mcrr ldc sve ld64b bti pauth hvc brk fp breakpoint softwareStep watchpoint instructionAbort dataAbort serror undivided topRows names rules code indexIn ruleAt texts textAt bytesAt bytes indentAt rowsMost rowMost valueMost textMost
 all-short = tt
 
 abbrev Short : Answer → Type 0
-Short a = length (listingFrom inPool 0 (listOf (a .records))) ≤ listingMost
+Short a = length (listingFrom bytesAt 0 (listOf (a .records))) ≤ listingMost
 
 accepted-short : (s : Served) → List·Memᴰ s layouts → (esr iss : ℕ) → Short (accepted (recordsFor (s .table) esr iss))
 unfolding accepted recordsOf recordsFor
@@ -130,9 +130,17 @@ answer-short = answer-has Short (λ f. omega arith) accepted-short
 
 -- a buffer of so many bytes holds the listing of any value
 pub listing-most : (esr : ℕ) (t : List ℕ) → listingOf esr ≡ outcome.text t → length t ≤ listingMost
-unfolding listingWith
+unfolding listingOf
 listing-most esr t is = by (passed (answerOf esr .refusal)) is
   where
-    by : (b : Bool) → cond b (outcome.text (listingFrom inPool 0 (listOf (answerOf esr .records)))) (outcome.refused (answerOf esr .refusal)) ≡ outcome.text t → length t ≤ listingMost
-    by true e = let same : listingFrom inPool 0 (listOf (answerOf esr .records)) ≡ t = cc in rw same at (answer-short esr)
+    by : (b : Bool) → cond b (outcome.text (listingFrom bytesAt 0 (listOf (answerOf esr .records)))) (outcome.refused (answerOf esr .refusal)) ≡ outcome.text t → length t ≤ listingMost
+    by true e = let same : listingFrom bytesAt 0 (listOf (answerOf esr .records)) ≡ t = cc in rw same at (answer-short esr)
     by false e = let z : _≡_ {A = ℕ} 0 1 = cc in absurd (omega arith)
+
+-- so a usize counts it
+pub small : (esr : ℕ) {a : Answer} → a ≡ answerOf esr → length (listingFrom bytesAt 0 (listOf (a .records))) < 2 ^ 64
+small esr is = subst (λ (x : Answer). length (listingFrom bytesAt 0 (listOf (x .records))) < 2 ^ 64) (sym is) (omega (arith, answer-short esr))
+
+-- and a record's line, whatever the record
+pub line-small : (r : Record) → r .width < 256 → length (lineText bytesAt r) < 2 ^ 64
+line-small r h = omega (arith, length-line bytesAt r, text-short (r .name), field-short (r .width) (r .value) h)

@@ -1,4 +1,3 @@
-pub mod Listings
-pub mod Asked
+pub mod Requested
 pub mod Longest
 pub mod Promises

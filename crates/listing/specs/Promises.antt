@@ -1,7 +1,7 @@
 -- What each public function promises: of what comes in and what the buffer holds before, the answer and what the buffer holds after.
 use Prim.Native.Nat.{ℕ}
 use mathlib.Core.List.{List}
-use Rattle.listing.specs.Asked.{recordLine, listingOf}
+use Rattle.listing.specs.Requested.{recordLine, listingOf}
 use Rattle.strings.specs.Outcomes.{Answers}
 use Rattle.strings.specs.declared.Written.{Written}
 

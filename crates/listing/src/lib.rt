@@ -1,27 +1,11 @@
 // The texts of a decoded value, at the front of a lent buffer: the line of one of its records, and the listing of all. Each function
-// measures the whole text, then refuses or writes it; a refusal leaves the buffer as it was.
+// measures the whole text first, by an appender without a buffer, then refuses or writes it; a refusal leaves the buffer as it was.
 ghost use Rattle.listing.specs.Promises.{Listing, RecordLine};
-ghost use Rattle.refusals.specs.Refusals.{carrying};
-ghost use Rattle.strings.specs.Outcomes.{refusal as refusing};
-ghost use mathlib.Core.Path.{_≡_};
-use lines::all_length;
-use lines::line_length;
-use lines::put_all;
-use lines::put_line;
+use display::put_line;
+use display::put_listing;
 use refusals::Reason;
 use refusals::Refusal;
 use strings::Written;
-
-mod lines;
-
-fn refuse(reason: Reason, carries: u64) -> Written
-    ensures { λ r. ⌜ r ≡ refusing (carrying reason carries) ⌝ }
-{
-    Written {
-        refusal: Refusal { carries, reason },
-        bytes: 0,
-    }
-}
 
 // The Rust's Display of one record; the index is flat, ISS's own records from 5 on.
 pub fn record_line(esr: u64, index: usize, buf: &mut [u8]) -> Written
@@ -34,19 +18,20 @@ pub fn record_line(esr: u64, index: usize, buf: &mut [u8]) -> Written
     }
     let count = answer.records.count;
     if count <= index {
-        return refuse(Reason::BadIndex, count as u64);
+        return Written::refused(Reason::BadIndex, count as u64);
     }
     let item = answer.records.at(index);
-    let starts = texts::starting_places();
-    let line = line_length(&starts, item);
-    if buf.len() < line {
-        return refuse(Reason::ShortBuffer, line as u64);
-    }
+    let starts = texts::text_starts();
     let pool = texts::pool_bytes();
+    let mut none = [0u8; 0];
+    let bytes = put_line(&mut none, 0, &pool, &starts, item);
+    if buf.len() < bytes {
+        return Written::refused(Reason::ShortBuffer, bytes as u64);
+    }
     put_line(buf, 0, &pool, &starts, item);
     Written {
         refusal: Refusal::NONE,
-        bytes: line,
+        bytes,
     }
 }
 
@@ -58,15 +43,16 @@ pub fn listing(esr: u64, buf: &mut [u8]) -> Written
     if refusal.number() != 0 {
         return Written { refusal, bytes: 0 };
     }
-    let starts = texts::starting_places();
-    let whole = all_length(&starts, answer.records);
-    if buf.len() < whole {
-        return refuse(Reason::ShortBuffer, whole as u64);
-    }
+    let starts = texts::text_starts();
     let pool = texts::pool_bytes();
-    put_all(buf, &pool, &starts, answer.records);
+    let mut none = [0u8; 0];
+    let bytes = put_listing(&mut none, 0, &pool, &starts, answer.records);
+    if buf.len() < bytes {
+        return Written::refused(Reason::ShortBuffer, bytes as u64);
+    }
+    put_listing(buf, 0, &pool, &starts, answer.records);
     Written {
         refusal: Refusal::NONE,
-        bytes: whole,
+        bytes,
     }
 }

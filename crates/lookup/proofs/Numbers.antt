@@ -12,9 +12,9 @@ use lib.Seq.{take-all}
 use borrow.Author.Tests.{ltb-true, ltb-false}
 use Rattle.promise.proofs.Tests.{both-left, both-right, from, from-at}
 use Rattle.texts.specs.Rules.{Rule, plain, rules}
-use Rattle.texts.specs.Pool.{onList, ruleAt, says, placesOf, nameRoom, firstOf}
-use Rattle.lookup.specs.Sayings.{bit, bitsOf, numbersOf, bitIn}
-use Rattle.texts.proofs.Laws.{places-small, says-below}
+use Rattle.texts.specs.Pool.{onList, ruleAt, describes, codesOf, nameRoom, firstOf}
+use Rattle.lookup.specs.Descriptions.{bit, bitsOf, numbersOf, bitIn}
+use Rattle.texts.proofs.Laws.{codes-small, describes-below}
 
 bit-lt : (b : Bool) → bit b < 2
 bit-lt true = omega arith
@@ -44,39 +44,39 @@ eqb-bit true = refl
 eqb-bit false = refl
 
 -- a value that a rule says something of is below 64
-pub says-small : (rule value : ℕ) → T (says rule value) → value < 64
-says-small rule value t = omega (arith, says-below rule value t, places-small rule)
+pub describes-small : (rule value : ℕ) → T (describes rule value) → value < 64
+describes-small rule value t = omega (arith, describes-below rule value t, codes-small rule)
 
 -- the bits of a rule say which values it says something of
-pub bit-in : (rule value : ℕ) → bitIn (numbersOf rule .0) value ≡ says rule value
+pub bit-in : (rule value : ℕ) → bitIn (numbersOf rule .0) value ≡ describes rule value
 unfolding bitIn numbersOf
-bit-in rule value = by-test (ltb value 64) refl (says rule value) refl
+bit-in rule value = by-test (ltb value 64) refl (describes rule value) refl
   where
-    by-test : (b : Bool) → ltb value 64 ≡ b → (s : Bool) → says rule value ≡ s
-        → cond b (eqb (bitsOf (says rule) 0 64 / 2 ^ value % 2) 1) false ≡ says rule value
+    by-test : (b : Bool) → ltb value 64 ≡ b → (s : Bool) → describes rule value ≡ s
+        → cond b (eqb (bitsOf (describes rule) 0 64 / 2 ^ value % 2) 1) false ≡ describes rule value
     by-test true e s q =
-        ap (λ x. eqb x 1) (bits-at (says rule) value 0 64 (ltb-true value 64 e)) ∙ eqb-bit (says rule (0 + value)) ∙ ap (says rule) (zero-add value)
+        ap (λ x. eqb x 1) (bits-at (describes rule) value 0 64 (ltb-true value 64 e)) ∙ eqb-bit (describes rule (0 + value)) ∙ ap (describes rule) (zero-add value)
     by-test false e true q =
-        absurd (omega (arith, ltb-false value 64 e, says-small rule value (subst T (sym q) tt)))
+        absurd (omega (arith, ltb-false value 64 e, describes-small rule value (subst T (sym q) tt)))
     by-test false e false q = sym q
 
 -- no rule's texts start past the last one's
-places-le : (rs : List Rule) (n : ℕ) → placesOf (take n rs) ≤ placesOf rs
-unfolding placesOf
-places-le rs zero = omega arith
-places-le [] (suc n) = omega arith
-places-le (r ∷ rs) (suc n) = omega (arith, places-le rs n)
+codes-le : (rs : List Rule) (n : ℕ) → codesOf (take n rs) ≤ codesOf rs
+unfolding codesOf
+codes-le rs zero = omega arith
+codes-le [] (suc n) = omega arith
+codes-le (r ∷ rs) (suc n) = omega (arith, codes-le rs n)
 
 pub first-le : (rule : ℕ) → firstOf rule ≤ 499
-unfolding firstOf placesOf rules
-first-le rule = omega (arith, places-le rules rule)
+unfolding firstOf codesOf rules
+first-le rule = omega (arith, codes-le rules rule)
 
 -- the rules 1 .. 31 are of one bit, with two codes each
 abbrev oneBit : ℕ → Bool
 oneBit n = eqb 3 (numbersOf n .0) && eqb (128 + 2 * (n - 1)) (numbersOf n .1)
 
 one-bits : T (from oneBit 1 31)
-unfolding numbersOf bitsOf says onList ruleAt firstOf placesOf rules
+unfolding numbersOf bitsOf describes onList ruleAt firstOf codesOf rules
 one-bits = tt
 
 pub one-bit : (n : ℕ) → 1 ≤ n → n < 32 → (3, 128 + 2 * (n - 1)) ≡ numbersOf n
@@ -94,9 +94,9 @@ no-bits f h k zero = refl
 no-bits f h k (suc n) = ap₂ (λ (x : ℕ) (b : Bool). x * 2 + bit b) (no-bits f h (suc k) n) (h k)
 
 pub no-rule : (n : ℕ) → 47 ≤ n → (0, 499) ≡ numbersOf n
-unfolding numbersOf says onList ruleAt firstOf placesOf rules
+unfolding numbersOf describes onList ruleAt firstOf codesOf rules
 no-rule n h =
     let none : ruleAt n ≡ plain = List·getD-eq-default rules plain h in
     ap₂ (λ (x y : ℕ). (x, y))
-    (sym (no-bits (says n) (λ v. ap (λ (r : Rule). onList (r .texts) v) none) 0 64))
-    (sym (ap (λ (l : List Rule). nameRoom + placesOf l) (take-all n rules h)))
+    (sym (no-bits (describes n) (λ v. ap (λ (r : Rule). onList (r .texts) v) none) 0 64))
+    (sym (ap (λ (l : List Rule). nameRoom + codesOf l) (take-all n rules h)))

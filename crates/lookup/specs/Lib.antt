@@ -1,2 +1,2 @@
-pub mod Sayings
+pub mod Descriptions
 pub mod Promises

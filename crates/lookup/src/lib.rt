@@ -1,6 +1,6 @@
-// What stands in the pool: the length and the bytes of a text by its code, and what a rule says of a value.
-ghost use Rattle.lookup.specs.Promises.{ByteIn, LengthIn, LengthOf, Says, TextCode};
-ghost use Rattle.lookup.specs.Sayings.{bitIn, numbersOf};
+// What stands in the pool: the length of a text by its code, and how a rule describes a value.
+ghost use Rattle.lookup.specs.Promises.{LengthIn, LengthOf, Describes, TextCode};
+ghost use Rattle.lookup.specs.Descriptions.{bitIn, numbersOf};
 ghost use mathlib.Core.Path.{_≡_};
 use texts::pool;
 use texts::rules;
@@ -20,57 +20,43 @@ pub fn length_in(starts: &[u16], code: u16) -> u16
     to - from
 }
 
-pub fn byte_in(pool: &[u8], starts: &[u16], code: u16, i: usize) -> u8
-    ensures { λ r. ⌜ ByteIn (now (pool .entry), now (starts .entry), code, i) r ⌝ }
-{
-    let length = length_in(starts, code) as usize;
-    if length <= i {
-        return 0;
-    }
-    let at = starts[code as usize] as usize + i;
-    if pool.len() <= at {
-        return 0;
-    }
-    pool[at]
-}
-
 pub fn length_of(code: u16) -> u16
     ensures { λ r. ⌜ LengthOf code r ⌝ }
 {
-    let starts = texts::starting_places();
+    let starts = texts::text_starts();
     length_in(&starts, code)
 }
 
 // A rule in numbers: the values that it has a text for, as bits, and its first code, that of the value 0.
-struct Saying(u64, u16);
+struct Descriptions(u64, u16);
 
 // A match, and no table: a table would be built at each call.
-fn in_numbers(rule: u8) -> Saying
+fn in_numbers(rule: u8) -> Descriptions
     ensures { λ r. ⌜ r ≡ numbersOf rule ⌝ }
 {
     if rule == rules::PLAIN {
-        return Saying(0, pool::BIT_FIRST);
+        return Descriptions(0, pool::BIT_FIRST);
     }
     if rule < rules::ISS_RES0 {
-        return Saying(3, pool::BIT_FIRST + 2 * (rule as u16 - 1));
+        return Descriptions(3, pool::BIT_FIRST + 2 * (rule as u16 - 1));
     }
     match rule {
-        rules::ISS_RES0 => Saying(1, pool::ISS_RES0_FIRST),
-        rules::CLASS_NAME => Saying(0x113F_9177_13E2_74FB, pool::CLASS_NAME_FIRST),
-        rules::TI => Saying(0xF, pool::TI_FIRST),
-        rules::AM => Saying(0x5F, pool::AM_FIRST),
-        rules::LD64B_ISS => Saying(0x7, pool::LD64B_ISS_FIRST),
-        rules::DEBUG_STATUS => Saying(0x4_0000_0000, pool::DEBUG_STATUS_FIRST),
-        rules::FAULT_STATUS => Saying(0x33_0BFA_F9FB_FFFF, pool::FAULT_STATUS_FIRST),
-        rules::SET_TYPE => Saying(0xD, pool::SET_TYPE_FIRST),
-        rules::SAS => Saying(0xF, pool::SAS_FIRST),
-        rules::WU => Saying(0xF, pool::WU_FIRST),
-        rules::AET => Saying(0x4F, pool::AET_FIRST),
-        rules::SERROR_STATUS => Saying(0x2_0001, pool::SERROR_STATUS_FIRST),
-        rules::WNR_NOT_VALID => Saying(0x1, pool::WNR_NOT_VALID_FIRST),
-        rules::MESSAGE => Saying(0xFE, pool::MESSAGE_FIRST),
-        rules::MESSAGE_END => Saying(0x80, pool::MESSAGE_END_FIRST),
-        _ => Saying(0, texts::COUNT as u16),
+        rules::ISS_RES0 => Descriptions(1, pool::ISS_RES0_FIRST),
+        rules::CLASS_NAME => Descriptions(0x113F_9177_13E2_74FB, pool::CLASS_NAME_FIRST),
+        rules::TI => Descriptions(0xF, pool::TI_FIRST),
+        rules::AM => Descriptions(0x5F, pool::AM_FIRST),
+        rules::LD64B_ISS => Descriptions(0x7, pool::LD64B_ISS_FIRST),
+        rules::DEBUG_STATUS => Descriptions(0x4_0000_0000, pool::DEBUG_STATUS_FIRST),
+        rules::FAULT_STATUS => Descriptions(0x33_0BFA_F9FB_FFFF, pool::FAULT_STATUS_FIRST),
+        rules::SET_TYPE => Descriptions(0xD, pool::SET_TYPE_FIRST),
+        rules::SAS => Descriptions(0xF, pool::SAS_FIRST),
+        rules::WU => Descriptions(0xF, pool::WU_FIRST),
+        rules::AET => Descriptions(0x4F, pool::AET_FIRST),
+        rules::SERROR_STATUS => Descriptions(0x2_0001, pool::SERROR_STATUS_FIRST),
+        rules::WNR_NOT_VALID => Descriptions(0x1, pool::WNR_NOT_VALID_FIRST),
+        rules::MESSAGE => Descriptions(0xFE, pool::MESSAGE_FIRST),
+        rules::MESSAGE_END => Descriptions(0x80, pool::MESSAGE_END_FIRST),
+        _ => Descriptions(0, texts::COUNT as u16),
     }
 }
 
@@ -80,8 +66,8 @@ fn has(values: u64, value: u64) -> bool
     value < 64 && (values >> value) & 1 == 1
 }
 
-pub fn says(rule: u8, value: u64) -> bool
-    ensures { λ r. ⌜ Says (rule, value) r ⌝ }
+pub fn describes(rule: u8, value: u64) -> bool
+    ensures { λ r. ⌜ Describes (rule, value) r ⌝ }
 {
     let s = in_numbers(rule);
     has(s.0, value)

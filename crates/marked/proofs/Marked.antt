@@ -8,7 +8,7 @@ use borrow.Author.Tests.{le-leb}
 use lib.Text.{eqt, eqt→eq}
 use Rattle.promise.proofs.Tests.{both-left, both-right}
 use Rattle.texts.specs.Names.{names}
-use Rattle.texts.specs.Pool.{textIn, onList, ruleAt, says, byValue, said, placesOf, texts, textAt, bytesAt, placeIn, code, firstOf, textCode, bytes}
+use Rattle.texts.specs.Pool.{textIn, onList, ruleAt, describes, byValue, described, codesOf, texts, textAt, bytesAt, indexIn, code, firstOf, textCode, bytes}
 use Rattle.texts.specs.Rules.{rules}
 use Rattle.refusals.specs.Refusals.{refusalNumber, carrying, noRefusal}
 use Rattle.refusals.specs.declared.Refusal.{Refusal}
@@ -22,25 +22,25 @@ use Rattle.tables.specs.Applying.{passes, rowsFor, checksFor}
 use Rattle.tables.specs.Tables.{topRows, layouts, res0, wf, mcr, mcrr, ldc, sve, ld64b, bti, pauth, hvc, brk, fp, breakpoint, softwareStep, watchpoint, instructionAbort, dataAbort, serror, undivided}
 use Rattle.esr.specs.Decode.{firstFailure, refused, accepted as acceptedAnswer, failureFor, recordsFor, tableAnswer, classAnswer, answerOf}
 use Rattle.esr.specs.declared.Answer.{Answer}
-use Rattle.listing.specs.Asked.{listingWith, listingOf}
-use Rattle.listing.specs.Listings.{inPool, indentAt, lineText, recordLines, listingFrom}
-use Rattle.strings.specs.Digits.{digitChar, digitsOf}
-use Rattle.strings.specs.Fields.{valueText, binaryText, behindValue, fieldText}
+use Rattle.listing.specs.Requested.{listingOf}
+use Rattle.display.specs.Listings.{indentAt, lineText, textLine, recordLines, listingFrom}
+use Rattle.digits.specs.Digits.{digitChar, digitsOf}
+use Rattle.strings.specs.Fields.{valueText, binaryText, binarySuffix, fieldText}
 use Rattle.strings.specs.Outcomes.{Outcome, text as inFull, answered, left}
 use Rattle.number.specs.Digits.{digitOf}
-use Rattle.number.specs.Numbers.{numberOf, numberIn, stepsOf, stepOf, startsWith}
+use Rattle.number.specs.Numbers.{numberOf, numberIn, readDigits, readDigit, startsWith}
 use Rattle.number.specs.declared.Number.{Number}
-use Rattle.marked.specs.Cases.{Fact, ofValue, withText, Expected, refusal, accepted, Case, cases, Says, Shown, AllShown, Met, AllHold, NumberHolds, listed, ended, ListingHolds}
+use Rattle.marked.specs.Cases.{Fact, ofValue, withText, Expected, refusal, accepted, Case, cases, HoldsOf, Shown, AllShown, Met, AllHold, NumberHolds, listed, ended, ListingHolds}
 
 -- The test.
 
-abbrev saysOf : Fact → Record → Bool
-saysOf (ofValue name value) x = eqt (textAt (x .name)) name && eqb (x .value) value
-saysOf (withText name text) x = eqt (textAt (x .name)) name && eqt (textAt (x .text)) text
+abbrev holdsOf : Fact → Record → Bool
+holdsOf (ofValue name value) x = eqt (textAt (x .name)) name && eqb (x .value) value
+holdsOf (withText name text) x = eqt (textAt (x .name)) name && eqt (textAt (x .text)) text
 
 abbrev shownIn : Fact → List Record → Bool
 shownIn f [] = false
-shownIn f (x ∷ xs) = saysOf f x || shownIn f xs
+shownIn f (x ∷ xs) = holdsOf f x || shownIn f xs
 
 abbrev allShown : List Fact → List Record → Bool
 allShown [] l = true
@@ -62,17 +62,17 @@ allMet [] = true
 allMet (c ∷ cs) = met (c .expected) (answerOf (c .esr)) && allMet cs
 
 computed : T (allMet cases)
-unfolding cases answerOf classAnswer tableAnswer failureFor recordsFor acceptedAnswer refused topRows firstFailure layouts res0 wf mcr mcrr ldc sve ld64b bti pauth hvc brk fp breakpoint softwareStep watchpoint instructionAbort dataAbort serror undivided passes rowsFor checksFor fieldOf recordOf meets refusalOf kindOf recordsOf textIn onList ruleAt says byValue said placesOf texts textAt placeIn code firstOf textCode names rules
+unfolding cases answerOf classAnswer tableAnswer failureFor recordsFor acceptedAnswer refused topRows firstFailure layouts res0 wf mcr mcrr ldc sve ld64b bti pauth hvc brk fp breakpoint softwareStep watchpoint instructionAbort dataAbort serror undivided passes rowsFor checksFor fieldOf recordOf meets refusalOf kindOf recordsOf textIn onList ruleAt describes byValue described codesOf texts textAt indexIn code firstOf textCode names rules
 computed = tt
 
 -- What it shows.
 
-says-so : (f : Fact) (x : Record) → T (saysOf f x) → Says f x
-says-so (ofValue name value) x t = (
+holds-so : (f : Fact) (x : Record) → T (holdsOf f x) → HoldsOf f x
+holds-so (ofValue name value) x t = (
   eqt→eq (textAt (x .name)) name (both-left (eqt (textAt (x .name)) name) (eqb (x .value) value) t),
   eqb→eq (x .value) value (both-right (eqt (textAt (x .name)) name) (eqb (x .value) value) t),
 )
-says-so (withText name text) x t = (
+holds-so (withText name text) x t = (
   eqt→eq (textAt (x .name)) name (both-left (eqt (textAt (x .name)) name) (eqt (textAt (x .text)) text) t),
   eqt→eq (textAt (x .text)) text (both-right (eqt (textAt (x .name)) name) (eqt (textAt (x .text)) text) t),
 )
@@ -83,10 +83,10 @@ none-empty (x ∷ xs) t = absurd t
 
 shown-so : (f : Fact) (l : List Record) → T (shownIn f l) → Shown f l
 shown-so f [] t = absurd t
-shown-so f (x ∷ xs) t = by-test (saysOf f x) refl t (shown-so f xs)
+shown-so f (x ∷ xs) t = by-test (holdsOf f x) refl t (shown-so f xs)
   where
-    by-test : (b : Bool) → saysOf f x ≡ b → T (b || shownIn f xs) → (T (shownIn f xs) → Shown f xs) → Shown f (x ∷ xs)
-    by-test true e u rest = record { which = x; among = List·Memᴰ·head refl; so = says-so f x (subst T (sym e) tt) }
+    by-test : (b : Bool) → holdsOf f x ≡ b → T (b || shownIn f xs) → (T (shownIn f xs) → Shown f xs) → Shown f (x ∷ xs)
+    by-test true e u rest = record { which = x; among = List·Memᴰ·head refl; so = holds-so f x (subst T (sym e) tt) }
     by-test false e u rest =
         let s : Shown f xs = rest u in
         record { which = s .which; among = List·Memᴰ·tail (s .among); so = s .so }
@@ -117,11 +117,11 @@ all-hold (c ∷ cs) t = (
 )
 
 read : numberOf (bytes "0x+f") ≡ record { value = 15; refusal = noRefusal }
-unfolding bytes numberOf numberIn stepsOf stepOf startsWith digitOf
+unfolding bytes numberOf numberIn readDigits readDigit startsWith digitOf
 read = refl
 
 in-full : listingOf 0x56000001 ≡ inFull (ended listed)
-unfolding listed ended listingWith listingFrom recordLines inPool indentAt lineText fieldText valueText binaryText behindValue digitsOf digitChar bytesAt bytes answerOf classAnswer tableAnswer failureFor recordsFor acceptedAnswer refused topRows firstFailure layouts res0 wf mcr mcrr ldc sve ld64b bti pauth hvc brk fp breakpoint softwareStep watchpoint instructionAbort dataAbort serror undivided passes rowsFor checksFor fieldOf recordOf meets refusalOf kindOf recordsOf textIn onList ruleAt says byValue said placesOf texts textAt placeIn code firstOf textCode names rules
+unfolding listed ended listingOf listingFrom recordLines textLine indentAt lineText fieldText valueText binaryText binarySuffix digitsOf digitChar bytesAt bytes answerOf classAnswer tableAnswer failureFor recordsFor acceptedAnswer refused topRows firstFailure layouts res0 wf mcr mcrr ldc sve ld64b bti pauth hvc brk fp breakpoint softwareStep watchpoint instructionAbort dataAbort serror undivided passes rowsFor checksFor fieldOf recordOf meets refusalOf kindOf recordsOf textIn onList ruleAt describes byValue described codesOf texts textAt indexIn code firstOf textCode names rules
 in-full = refl
 
 listing-holds : ListingHolds

@@ -55,15 +55,15 @@ cases =
     []
 
 -- what a fact says of a record
-abbrev pub Says : Fact → Record → Type 0
-Says (ofValue name value) x = (textAt (x .name) ≡ name) × (x .value ≡ value)
-Says (withText name text) x = (textAt (x .name) ≡ name) × (textAt (x .text) ≡ text)
+abbrev pub HoldsOf : Fact → Record → Type 0
+HoldsOf (ofValue name value) x = (textAt (x .name) ≡ name) × (x .value ≡ value)
+HoldsOf (withText name text) x = (textAt (x .name) ≡ name) × (textAt (x .text) ≡ text)
 
 -- a record of a list of which it is so
 pub record Shown (f : Fact) (l : List Record) : Type 0 where
   pub which : Record
   pub among : List·Memᴰ which l
-  pub so : Says f which
+  pub so : HoldsOf f which
 
 abbrev pub AllShown : List Fact → List Record → Type 0
 AllShown [] l = Unit {0}
@@ -103,7 +103,7 @@ unfoldable pub ended : List String → List ℕ
 ended [] = []
 ended (line ∷ lines) = bytes line ++ (bytes "\n" ++ ended lines)
 
--- in every buffer with room for it, by every answer that listing's promise allows, and behind it what stood there
+-- in every buffer with room for it, by every answer that listing's promise allows, and after it what stood there
 abbrev pub ListingHolds : Type 0
 ListingHolds =
     (before after : List ℕ) (r : Written)

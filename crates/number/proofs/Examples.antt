@@ -7,7 +7,7 @@ use mathlib.Core.Bool.{Bool, _&&_}
 use mathlib.Core.List.{List, [], _∷_}
 use lib.Dec.{T, eqb}
 use Rattle.number.specs.Digits.{digitOf}
-use Rattle.number.specs.Numbers.{stepOf, stepsOf, startsWith, numberIn, numberOf}
+use Rattle.number.specs.Numbers.{readDigit, readDigits, startsWith, numberIn, numberOf}
 use Rattle.promise.proofs.Tests.{every}
 use Rattle.refusals.specs.Refusals.{refusalNumber}
 
@@ -48,9 +48,9 @@ examples =
     []
 
 abbrev holds : ℕ → Example → Bool
-holds place e =
+holds at e =
     eqb (refusalNumber (numberOf (bytes (e .text)) .refusal)) (e .refusal) && eqb (numberOf (bytes (e .text)) .value) (e .value)
 
 all-hold : T (every holds 0 examples)
-unfolding bytes digitOf stepOf stepsOf startsWith numberIn numberOf
+unfolding bytes digitOf readDigit readDigits startsWith numberIn numberOf
 all-hold = tt

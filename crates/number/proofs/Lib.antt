@@ -1,4 +1,5 @@
 pub mod Laws
+pub mod Steps
 pub mod Theorems
 pub mod Decides
 pub mod Examples

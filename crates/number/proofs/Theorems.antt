@@ -1,5 +1,5 @@
--- What the promise comes to: a number is accepted just where the text stands for one by the places of its digits, and zeros and a sign in
--- front change nothing. Each is an induction over the characters.
+-- What the promises come to: a number is accepted just where the text stands for one by the positions of its digits; zeros and a sign in
+-- front change nothing; what is read does not depend on where the text is cut. Each is an induction over the characters.
 use Prim.Native.Char.{code}
 use Prim.Native.Nat.{ℕ, zero, suc, _+_, _*_, _^_, _≤_, _<_}
 use mathlib.Core.Bool.{Bool, true, false, false≢true, cond}
@@ -10,22 +10,27 @@ use native.Mathlib.Nat.{add-mul, mul-assoc, pow-zero, pow-succ', one-le-pow, le-
 use native.Mathlib.Omega.{arith}
 use lib.ListN.{length, replicate, length-append}
 use lib.Dec.{T, eqb, ltb, lt→ltb, ltb→lt}
-use borrow.Author.Tests.{eqb-false, ne-eqb}
-use Rattle.number.proofs.Laws.{base-pos, either, digit-none, step-by, step-on, steps-refused, unsigned-bare, unsigned-plus, number-some, number-plain}
+use borrow.Author.Tests.{eqb-false, ne-eqb, lt-ltb}
+use Rattle.number.proofs.Laws.{base-pos, either, digit-none, read-by, read-on, read-refused, unsigned-bare, unsigned-plus, number-some, number-plain}
+use Rattle.number.proofs.Steps.{read-stage, steps-refused}
 use Rattle.promise.proofs.Tests.{both-left, both-right, both-intro}
 use Rattle.number.specs.Digits.{baseOf, digitOf, noDigit}
-use Rattle.number.specs.Numbers.{stateOf, startOf, refused, stepOf, stepsOf, startsWith, isHex, unprefixed, unsigned, digitsIn, numberFrom, numberIn, numberOf}
-use Rattle.number.specs.Places.{areDigits, placeValue, StandsFor, prefixOf}
+use Rattle.number.specs.Numbers.{inDigits, refused, readDigit, readDigits, startsWith, isHex, unprefixed, unsigned, digitsIn, numberFrom, numberIn, numberOf}
+use Rattle.number.specs.Positional.{areDigits, positionalValue, StandsFor, prefixOf}
+use Rattle.number.specs.Steps.{start, stageAfter, advanceOf, isDigits, stepOf, stepsOf, hasCharacter}
 use Rattle.number.specs.declared.Number.{Number}
 use Rattle.number.specs.declared.NumberState.{NumberState}
+use Rattle.number.specs.declared.Stage.{Stage}
+use Rattle.number.specs.declared.Stage.the-variants.{Begin, Zero, Prefix, Sign, Digits}
 use Rattle.refusals.specs.Refusals.{bare, noRefusal}
-use Rattle.refusals.specs.declared.Reason.the-variants.{Empty, InvalidDigit, PosOverflow}
+use Rattle.refusals.specs.declared.Reason.the-variants.{Empty, InvalidDigit, None, PosOverflow}
+use Rattle.refusals.specs.declared.Refusal.{Refusal}
 
 -- bytes above 0x7F are not digits, in either base
 pub no-digit-above : (b : ℕ) → 0x7F < b → digitOf b ≡ noDigit
 no-digit-above b h = digit-none b (inr (omega arith)) (inr (omega arith)) (inr (omega arith))
 
--- The fold.
+-- Steps.
 
 -- characters in two parts are read one part after the other
 pub steps-append : (st : NumberState) (s t : List ℕ) → stepsOf st (s ++ t) ≡ stepsOf (stepsOf st s) t
@@ -33,30 +38,64 @@ unfolding stepsOf
 steps-append st [] t = refl
 steps-append st (b ∷ s) t = steps-append (stepOf st b) s t
 
-never-accepted : (st : NumberState) (s : List ℕ) → refused (st .refusal) ≡ true → stepsOf st s .refusal ≡ noRefusal → ⊥
-never-accepted st s h e =
-    false≢true (sym (ap refused e) ∙ ap (λ (r : NumberState). refused (r .refusal)) (steps-refused st s h) ∙ h)
-
-pub first-offender : (st : NumberState) (s t : List ℕ) → refused (stepsOf st s .refusal) ≡ true → stepsOf st (s ++ t) ≡ stepsOf st s
+-- the first offender answers, whatever stands after it
+pub first-offender : (st : NumberState) (s t : List ℕ) → refused (stepsOf st s .reason) ≡ true → stepsOf st (s ++ t) ≡ stepsOf st s
 first-offender st s t h = steps-append st s t ∙ steps-refused (stepsOf st s) t h
+
+abbrev Open : Stage → Type 0
+Open q = hasCharacter q ≡ true
+
+abbrev IsOpen : NumberState → Type 0
+IsOpen st = Open (st .stage)
+
+opens : (q : Stage) (b : ℕ) → Open (stageAfter q b)
+unfolding stageAfter
+opens Begin b = either Open (eqb b (code "+")) refl (either Open (eqb b (code "0")) refl refl)
+opens Zero b = either Open (eqb b (code "x")) refl refl
+opens Prefix b = either Open (eqb b (code "+")) refl refl
+opens Sign b = refl
+opens Digits b = refl
+
+module _ (st : NumberState) (b : ℕ) where
+  read-opens : IsOpen (cond (isDigits (stageAfter (st .stage) b)) (readDigit (advanceOf st b) b) (advanceOf st b))
+  read-opens = either IsOpen (isDigits (stageAfter (st .stage) b)) (ap hasCharacter (read-stage (advanceOf st b) b)) (opens (st .stage) b)
+
+  step-open : IsOpen st → IsOpen (stepOf st b)
+  unfolding stepOf
+  step-open h = either IsOpen (refused (st .reason)) h read-opens
+
+steps-open : (st : NumberState) (s : List ℕ) → IsOpen st → IsOpen (stepsOf st s)
+unfolding stepsOf
+steps-open st [] h = h
+steps-open st (b ∷ s) h = steps-open (stepOf st b) s (step-open st b h)
+
+-- a state is open just where there was a character
+pub open-text : (s : List ℕ) → hasCharacter (stepsOf start s .stage) ≡ ltb 0 (length s)
+unfolding stepsOf stepOf
+open-text [] = refl
+open-text (b ∷ s) = steps-open (stepOf start b) s (read-opens start b) ∙ sym (lt-ltb 0 (length (b ∷ s)) (omega arith))
+
+-- Digits.
+
+never-accepted : (st : NumberState) (s : List ℕ) → refused (st .reason) ≡ true → readDigits st s .reason ≡ None → ⊥
+never-accepted st s h e = false≢true (sym (ap refused e) ∙ ap (λ (r : NumberState). refused (r .reason)) (read-refused st s h) ∙ h)
 
 -- a value has 64 bits; nothing is refused, or a refusal has a number and the value is 0
 abbrev Kept : Number → Type 0
-Kept n = (n .value < 2 ^ 64) × ((n .refusal ≡ noRefusal) ⊎ ((refused (n .refusal) ≡ true) × (n .value ≡ 0)))
+Kept n = (n .value < 2 ^ 64) × ((n .refusal ≡ noRefusal) ⊎ ((refused (n .refusal .reason) ≡ true) × (n .value ≡ 0)))
 
-steps-kept : (hex : Bool) (v : ℕ) (s : List ℕ) → v < 2 ^ 64 → Kept (numberFrom (stepsOf (stateOf hex v noRefusal) s))
-unfolding stepsOf
-steps-kept hex v [] h = (h, inl refl)
-steps-kept hex v (b ∷ s) h =
-    step-by (stateOf hex v noRefusal) b (λ (st : NumberState). Kept (numberFrom (stepsOf st s)))
-    (λ e. absurd (false≢true e))
-    (rw (steps-refused (stateOf hex 0 (bare InvalidDigit)) s refl) (omega arith, inr (refl, refl)))
-    (rw (steps-refused (stateOf hex 0 (bare PosOverflow)) s refl) (omega arith, inr (refl, refl)))
-    (λ d f. steps-kept hex (v * baseOf hex + digitOf b) s f)
+digits-kept : (hex : Bool) (v : ℕ) (s : List ℕ) → v < 2 ^ 64 → Kept (numberFrom (readDigits (inDigits hex v None) s))
+unfolding readDigits
+digits-kept hex v [] h = (h, inl refl)
+digits-kept hex v (b ∷ s) h =
+    read-by (inDigits hex v None) b (λ (st : NumberState). Kept (numberFrom (readDigits st s)))
+    (rw (read-refused (inDigits hex 0 InvalidDigit) s refl) (omega arith, inr (refl, refl)))
+    (rw (read-refused (inDigits hex 0 PosOverflow) s refl) (omega arith, inr (refl, refl)))
+    (λ d f. digits-kept hex (v * baseOf hex + digitOf b) s f)
 
 number-kept : (hex : Bool) (s : List ℕ) → Kept (numberIn hex s)
 unfolding numberIn
-number-kept hex s = either Kept (eqb (length s) 0) (omega arith, inr (refl, refl)) (steps-kept hex 0 (unsigned s) (omega arith))
+number-kept hex s = either Kept (eqb (length s) 0) (omega arith, inr (refl, refl)) (digits-kept hex 0 (unsigned s) (omega arith))
 
 -- a result is below 2^64, refused or not
 pub below : (s : List ℕ) → numberOf s .value < 2 ^ 64
@@ -64,75 +103,74 @@ unfolding numberOf
 below s = number-kept (isHex s) (unprefixed s) .0
 
 -- a text is accepted, or it is refused with a number and has the value 0
-pub refused-zero : (s : List ℕ) → (numberOf s .refusal ≡ noRefusal) ⊎ ((refused (numberOf s .refusal) ≡ true) × (numberOf s .value ≡ 0))
+pub refused-zero : (s : List ℕ) → (numberOf s .refusal ≡ noRefusal) ⊎ ((refused (numberOf s .refusal .reason) ≡ true) × (numberOf s .value ≡ 0))
 unfolding numberOf
 refused-zero s = number-kept (isHex s) (unprefixed s) .1
 
--- Place value.
+-- Positional value.
 
-no-places : (k v : ℕ) → v ≡ v * k ^ 0 + 0
-no-places k v = rw (pow-zero k) (omega arith)
+no-digits : (k v : ℕ) → v ≡ v * k ^ 0 + 0
+no-digits k v = rw (pow-zero k) (omega arith)
 
--- one digit more in front of n others: the value so far moves up a place
-more-places : (v k d p q : ℕ) → (v * k + d) * p + q ≡ v * (k * p) + (d * p + q)
-more-places v k d p q = rw (add-mul (v * k) d p, mul-assoc v k p) (omega arith)
+-- one digit more before n others: the value so far moves up a position
+more-digits : (v k d p q : ℕ) → (v * k + d) * p + q ≡ v * (k * p) + (d * p + q)
+more-digits v k d p q = rw (add-mul (v * k) d p, mul-assoc v k p) (omega arith)
 
-place-more : (k v b : ℕ) (s : List ℕ) → (v * k + digitOf b) * k ^ length s + placeValue k s ≡ v * k ^ length (b ∷ s) + placeValue k (b ∷ s)
-unfolding placeValue
-place-more k v b s = rw (pow-succ' k (length s)) (more-places v k (digitOf b) (k ^ length s) (placeValue k s))
+digit-more : (k v b : ℕ) (s : List ℕ) → (v * k + digitOf b) * k ^ length s + positionalValue k s ≡ v * k ^ length (b ∷ s) + positionalValue k (b ∷ s)
+unfolding positionalValue
+digit-more k v b s = rw (pow-succ' k (length s)) (more-digits v k (digitOf b) (k ^ length s) (positionalValue k s))
 
--- an accepted fold had digits alone, and its value is theirs by their places, the value before them above
+-- characters that are accepted are digits alone; the value is theirs by their positions, after the value before them has moved up
 abbrev Worth : ℕ → ℕ → List ℕ → NumberState → Type 0
-Worth k v s end = T (areDigits k s) × (end .value ≡ v * k ^ length s + placeValue k s)
+Worth k v s end = T (areDigits k s) × (end .value ≡ v * k ^ length s + positionalValue k s)
 
-steps-worth : (hex : Bool) (v : ℕ) (s : List ℕ)
-    → stepsOf (stateOf hex v noRefusal) s .refusal ≡ noRefusal
-    → Worth (baseOf hex) v s (stepsOf (stateOf hex v noRefusal) s)
-unfolding stepsOf areDigits placeValue
-steps-worth hex v [] e = (tt, no-places (baseOf hex) v)
-steps-worth hex v (b ∷ s) e =
-    step-by (stateOf hex v noRefusal) b
-    (λ (st : NumberState). stepsOf st s .refusal ≡ noRefusal → Worth (baseOf hex) v (b ∷ s) (stepsOf st s))
-    (λ h. absurd (false≢true h))
-    (λ h. absurd (never-accepted (stateOf hex 0 (bare InvalidDigit)) s refl h))
-    (λ h. absurd (never-accepted (stateOf hex 0 (bare PosOverflow)) s refl h))
-    (λ d f h. let w = steps-worth hex (v * baseOf hex + digitOf b) s h in (
+digits-worth : (hex : Bool) (v : ℕ) (s : List ℕ)
+    → readDigits (inDigits hex v None) s .reason ≡ None
+    → Worth (baseOf hex) v s (readDigits (inDigits hex v None) s)
+unfolding readDigits areDigits positionalValue
+digits-worth hex v [] e = (tt, no-digits (baseOf hex) v)
+digits-worth hex v (b ∷ s) e =
+    read-by (inDigits hex v None) b
+    (λ (st : NumberState). readDigits st s .reason ≡ None → Worth (baseOf hex) v (b ∷ s) (readDigits st s))
+    (λ h. absurd (never-accepted (inDigits hex 0 InvalidDigit) s refl h))
+    (λ h. absurd (never-accepted (inDigits hex 0 PosOverflow) s refl h))
+    (λ d f h. let w = digits-worth hex (v * baseOf hex + digitOf b) s h in (
       both-intro (ltb (digitOf b) (baseOf hex)) (areDigits (baseOf hex) s) (lt→ltb (digitOf b) (baseOf hex) d) (w .0),
-      w .1 ∙ place-more (baseOf hex) v b s,
+      w .1 ∙ digit-more (baseOf hex) v b s,
     ))
     e
 
 -- and digits alone whose value has 64 bits are accepted
-steps-accepted : (hex : Bool) (v : ℕ) (s : List ℕ)
+digits-accepted : (hex : Bool) (v : ℕ) (s : List ℕ)
     → T (areDigits (baseOf hex) s)
-    → v * baseOf hex ^ length s + placeValue (baseOf hex) s < 2 ^ 64
-    → stepsOf (stateOf hex v noRefusal) s ≡ stateOf hex (v * baseOf hex ^ length s + placeValue (baseOf hex) s) noRefusal
-unfolding stepsOf areDigits placeValue
-steps-accepted hex v [] t l = ap (λ (n : ℕ). stateOf hex n noRefusal) (no-places (baseOf hex) v)
-steps-accepted hex v (b ∷ s) t l =
+    → v * baseOf hex ^ length s + positionalValue (baseOf hex) s < 2 ^ 64
+    → readDigits (inDigits hex v None) s ≡ inDigits hex (v * baseOf hex ^ length s + positionalValue (baseOf hex) s) None
+unfolding readDigits areDigits positionalValue
+digits-accepted hex v [] t l = ap (λ (n : ℕ). inDigits hex n None) (no-digits (baseOf hex) v)
+digits-accepted hex v (b ∷ s) t l =
     let k : ℕ = baseOf hex in
     let d : T (ltb (digitOf b) k) = both-left (ltb (digitOf b) k) (areDigits k s) t in
-    let e = place-more k v b s in
+    let e = digit-more k v b s in
     let one : 1 ≤ k ^ length s = one-le-pow (length s) k (base-pos hex refl) in
     let up : v * k + digitOf b ≤ (v * k + digitOf b) * k ^ length s = le-mul-of-pos-right (v * k + digitOf b) one in
-    ap (λ (st : NumberState). stepsOf st s) (step-on hex v b (ltb→lt (digitOf b) k d) (omega arith))
-    ∙ steps-accepted hex (v * k + digitOf b) s (both-right (ltb (digitOf b) k) (areDigits k s) t) (omega arith)
-    ∙ ap (λ (n : ℕ). stateOf hex n noRefusal) e
+    ap (λ (st : NumberState). readDigits st s) (read-on hex v b (ltb→lt (digitOf b) k d) (omega arith))
+    ∙ digits-accepted hex (v * k + digitOf b) s (both-right (ltb (digitOf b) k) (areDigits k s) t) (omega arith)
+    ∙ ap (λ (n : ℕ). inDigits hex n None) e
 
 -- Acceptance.
 
--- past its sign a text in a base is accepted just where it stands for its value
+-- after its sign a text in a base is accepted just where it stands for its value
 module _ (hex : Bool) (s : List ℕ) where
-  accepted-in : 1 ≤ length s → numberIn hex s .refusal ≡ noRefusal → Worth (baseOf hex) 0 (unsigned s) (stepsOf (startOf hex) (unsigned s))
-  accepted-in some e = steps-worth hex 0 (unsigned s) (rw (number-some s hex some) at e)
+  accepted-in : 1 ≤ length s → numberIn hex s .refusal ≡ noRefusal → Worth (baseOf hex) 0 (unsigned s) (readDigits (inDigits hex 0 None) (unsigned s))
+  accepted-in some e = digits-worth hex 0 (unsigned s) (ap (λ (f : Refusal). f .reason) (rw (number-some s hex some) at e))
 
   some-in : numberIn hex s .refusal ≡ noRefusal → 1 ≤ length s
   unfolding numberIn
   some-in = by-test (eqb (length s) 0) refl
     where
       by-test : (t : Bool) → eqb (length s) 0 ≡ t
-          → cond t (record { value = 0; refusal = bare Empty }) (numberFrom (stepsOf (startOf hex) (unsigned s))) .refusal ≡ noRefusal → 1 ≤ length s
-      by-test true h e = absurd (false≢true (sym (ap refused e)))
+          → cond t (record { value = 0; refusal = bare Empty }) (numberFrom (readDigits (inDigits hex 0 None) (unsigned s))) .refusal ≡ noRefusal → 1 ≤ length s
+      by-test true h e = absurd (false≢true (sym (ap (λ (f : Refusal). refused (f .reason)) e)))
       by-test false h e = omega (arith, eqb-false (length s) 0 h)
 
 -- an accepted text stands for its value: the value is the positional value of its digits
@@ -154,12 +192,12 @@ pub accepts : (s : List ℕ) (v : ℕ) → StandsFor s v → numberOf s ≡ reco
 unfolding numberOf
 accepts s v w =
     number-some (unprefixed s) (isHex s) (w .some)
-    ∙ ap numberFrom (steps-accepted (isHex s) 0 (digitsIn s) (w .digits) (omega (arith, w .small, w .worth)))
+    ∙ ap numberFrom (digits-accepted (isHex s) 0 (digitsIn s) (w .digits) (omega (arith, w .small, w .worth)))
     ∙ ap (λ (n : ℕ). record { value = n; refusal = noRefusal }) (omega (arith, w .worth))
 
 -- What may stand in front.
 
--- a text behind what selects its base is a number in that base; where nothing selects one it must not begin with "0x" itself
+-- a text after what selects its base is a number in that base; where nothing selects one it must not begin with "0x" itself
 abbrev pub Bare : Bool → List ℕ → Type 0
 Bare hex s = hex ≡ false → isHex s ≡ false
 
@@ -173,11 +211,11 @@ not-digit : (hex : Bool) (c d : ℕ) → digitOf c ≡ noDigit → digitOf d < b
 not-digit true c d w l e = omega (arith, ap digitOf e)
 not-digit false c d w l e = omega (arith, ap digitOf e)
 
-steps-zeros : (hex : Bool) (n : ℕ) (s : List ℕ) → stepsOf (startOf hex) (replicate n (code "0") ++ s) ≡ stepsOf (startOf hex) s
-unfolding stepsOf stepOf digitOf
-steps-zeros hex zero s = refl
-steps-zeros true (suc n) s = steps-zeros true n s
-steps-zeros false (suc n) s = steps-zeros false n s
+digits-zeros : (hex : Bool) (n : ℕ) (s : List ℕ) → readDigits (inDigits hex 0 None) (replicate n (code "0") ++ s) ≡ readDigits (inDigits hex 0 None) s
+unfolding readDigits readDigit digitOf
+digits-zeros hex zero s = refl
+digits-zeros true (suc n) s = digits-zeros true n s
+digits-zeros false (suc n) s = digits-zeros false n s
 
 bare-zeros : (hex : Bool) (n d : ℕ) (s : List ℕ) → digitOf d < baseOf hex → Bare hex (d ∷ s) → Bare hex (replicate n (code "0") ++ (d ∷ s))
 unfolding startsWith digitOf
@@ -203,9 +241,9 @@ leading-zeros hex n d s l h =
     let z : List ℕ = replicate n (code "0") ++ (d ∷ s) in
     number-in hex z (bare-zeros hex n d s l h)
     ∙ number-some z hex (omega (arith, length-append (replicate n (code "0")) (d ∷ s)))
-    ∙ ap (λ (t : List ℕ). numberFrom (stepsOf (startOf hex) t)) (unsigned-zeros hex n d s l)
-    ∙ ap numberFrom (steps-zeros hex n (d ∷ s))
-    ∙ ap (λ (t : List ℕ). numberFrom (stepsOf (startOf hex) t)) (sym (unsigned-digit hex d s l))
+    ∙ ap (λ (t : List ℕ). numberFrom (readDigits (inDigits hex 0 None) t)) (unsigned-zeros hex n d s l)
+    ∙ ap numberFrom (digits-zeros hex n (d ∷ s))
+    ∙ ap (λ (t : List ℕ). numberFrom (readDigits (inDigits hex 0 None) t)) (sym (unsigned-digit hex d s l))
     ∙ sym (number-in hex (d ∷ s) h ∙ number-some (d ∷ s) hex (omega arith))
 
 -- one "+" changes nothing, refused or not: put in front of a text that has a character, and no "+" there already
@@ -216,6 +254,6 @@ one-plus hex d s other h =
     let p : List ℕ = code "+" ∷ d ∷ s in
     number-in hex p (λ e. refl)
     ∙ number-some p hex (omega arith)
-    ∙ ap (λ (t : List ℕ). numberFrom (stepsOf (startOf hex) t))
+    ∙ ap (λ (t : List ℕ). numberFrom (readDigits (inDigits hex 0 None) t))
     (unsigned-plus p (omega arith) refl ∙ sym (unsigned-bare (d ∷ s) (omega arith) other))
     ∙ sym (number-in hex (d ∷ s) h ∙ number-some (d ∷ s) hex (omega arith))

@@ -1,4 +1,5 @@
 pub mod Digits
 pub mod Numbers
-pub mod Places
+pub mod Positional
 pub mod Promises
+pub mod Steps

@@ -8,38 +8,35 @@ use lib.ListN.{length, drop}
 use Rattle.number.specs.Digits.{baseOf, digitOf}
 use Rattle.number.specs.declared.Number.{Number}
 use Rattle.number.specs.declared.NumberState.{NumberState}
-use Rattle.refusals.specs.Refusals.{bare, noRefusal, passed}
-use Rattle.refusals.specs.declared.Reason.the-variants.{Empty, InvalidDigit, PosOverflow}
-use Rattle.refusals.specs.declared.Refusal.{Refusal}
+use Rattle.number.specs.declared.Stage.the-variants.{Digits}
+use Rattle.refusals.specs.Refusals.{bare, passed}
+use Rattle.refusals.specs.declared.Reason.{Reason}
+use Rattle.refusals.specs.declared.Reason.the-variants.{Empty, InvalidDigit, None, PosOverflow}
 
--- The reading state, and the fold.
+-- The digits.
 
-abbrev pub stateOf : Bool → ℕ → Refusal → NumberState
-stateOf hex value refusal = record { value = value; hex = hex; refusal = refusal }
+-- the state where digits are read
+abbrev pub inDigits : Bool → ℕ → Reason → NumberState
+inDigits hex value reason = record { value = value; reason = reason; hex = hex; stage = Digits }
 
--- before the first character
-abbrev pub startOf : Bool → NumberState
-startOf hex = stateOf hex 0 noRefusal
-
-abbrev pub refused : Refusal → Bool
-refused refusal = not (passed refusal)
+abbrev pub refused : Reason → Bool
+refused reason = not (passed (bare reason))
 
 -- the result with one digit more
 abbrev pub grown : NumberState → ℕ → ℕ
 grown st b = st .value * baseOf (st .hex) + digitOf b
 
--- one character: the first offender answers; not a digit is 9; a digit that takes the result past 2^64-1 is 10
-unfoldable pub stepOf : NumberState → ℕ → NumberState
-stepOf st b =
-    cond (refused (st .refusal)) st
-    (cond (leb (baseOf (st .hex)) (digitOf b)) (stateOf (st .hex) 0 (bare InvalidDigit))
-    (cond (ltb (2 ^ 64 - 1) (grown st b)) (stateOf (st .hex) 0 (bare PosOverflow))
-    (stateOf (st .hex) (grown st b) (st .refusal))))
+-- one character: not a digit is 9; a digit that takes the result past 2^64-1 is 10
+unfoldable pub readDigit : NumberState → ℕ → NumberState
+readDigit st b =
+    cond (leb (baseOf (st .hex)) (digitOf b)) (inDigits (st .hex) 0 InvalidDigit)
+    (cond (ltb (2 ^ 64 - 1) (grown st b)) (inDigits (st .hex) 0 PosOverflow)
+    (inDigits (st .hex) (grown st b) (st .reason)))
 
--- characters go left to right, and the state after each is handed on to the next
-unfoldable pub stepsOf : NumberState → List ℕ → NumberState
-stepsOf st [] = st
-stepsOf st (b ∷ bs) = stepsOf (stepOf st b) bs
+-- characters go left to right; the first offender answers
+unfoldable pub readDigits : NumberState → List ℕ → NumberState
+readDigits st [] = st
+readDigits st (b ∷ bs) = cond (refused (st .reason)) st (readDigits (readDigit st b) bs)
 
 -- The whole input.
 
@@ -67,11 +64,11 @@ abbrev pub digitsIn : List ℕ → List ℕ
 digitsIn s = unsigned (unprefixed s)
 
 abbrev pub numberFrom : NumberState → Number
-numberFrom st = record { value = st .value; refusal = st .refusal }
+numberFrom st = record { value = st .value; refusal = bare (st .reason) }
 
 -- a number in a base: without characters it is 8
 unfoldable pub numberIn : Bool → List ℕ → Number
-numberIn hex s = cond (eqb (length s) 0) (record { value = 0; refusal = bare Empty }) (numberFrom (stepsOf (startOf hex) (unsigned s)))
+numberIn hex s = cond (eqb (length s) 0) (record { value = 0; refusal = bare Empty }) (numberFrom (readDigits (inDigits hex 0 None) (unsigned s)))
 
 unfoldable pub numberOf : List ℕ → Number
 numberOf s = numberIn (isHex s) (unprefixed s)

@@ -1,9 +1,11 @@
-// Reads a number as Rust's library does: an optional "0x", an optional "+", then digits, the state after each handed on to the next.
+// Reads a number as Rust's library does: an optional "0x", an optional "+", then digits, the state after each character handed on to the next.
 ghost use Prim.Native.Nat.{_<_, _≤_};
 ghost use Rattle.number.specs.Digits.{baseOf, digitOf};
-ghost use Rattle.number.specs.Numbers.{isHex, numberIn, refused, stateOf, stepsOf, unsigned};
-ghost use Rattle.number.specs.Promises.{Parsed, Started, Stepped};
-ghost use Rattle.refusals.specs.Refusals.{bare};
+ghost use Rattle.number.specs.Numbers.{inDigits, readDigit, readDigits, refused};
+ghost use Rattle.number.specs.Promises.{Finished, Opened, Parsed, Started, Stepped};
+ghost use Rattle.number.specs.Steps.{advanceOf, endReason, hexAt, isDigits, leadOf, stageAfter};
+ghost use lib.ListN.{drop};
+ghost use mathlib.Core.Bool.{false};
 ghost use mathlib.Core.Path.{_≡_};
 use refusals::Reason;
 use refusals::Refusal;
@@ -12,14 +14,31 @@ use std::num::wrapping_sub_u64;
 // All bits but bit 5, in which alone small letters differ from large ones.
 const BUT_CASE: u64 = 0xFFFF_FFFF_FFFF_FFDF;
 
+// The sign that may stand.
+const SIGN: u8 = b'+';
+
 // The most that a result may be.
 const MOST: u64 = 0xFFFF_FFFF_FFFF_FFFF;
 
-// The value so far, the base, and the first refusal; a refused state has the value 0.
+// What the next character may be besides a digit.
+pub enum Stage {
+    // There is no character yet: a "+" may stand, and a "0" may begin "0x".
+    Begin,
+    // The text is "0": an "x" selects base 16.
+    Zero,
+    // The text is "0x": a "+" may stand.
+    Prefix,
+    // The last character is a "+", which may stand if a character follows.
+    Sign,
+    Digits,
+}
+
+// The value so far, the first refusal, the base and the stage. Where something is refused the value is 0.
 pub struct NumberState {
     pub value: u64,
+    pub reason: Reason,
     pub hex: bool,
-    pub refusal: Refusal,
+    pub stage: Stage,
 }
 
 // The value, or the refusal and the value 0.
@@ -28,14 +47,20 @@ pub struct Number {
     pub refusal: Refusal,
 }
 
+// The state after the characters before an offset.
+struct Lead {
+    state: NumberState,
+    at: usize,
+}
+
 fn base_of(hex: bool) -> u64
     ensures { λ r. ⌜ r ≡ baseOf hex ⌝ }
 {
     if hex { 16 } else { 10 }
 }
 
-// Below the base the count is the digit, and from there on there is none: what stands before "0" or "A" wraps. It is counted and not told by
-// ranges, since which of them a character lies in cannot be foreseen.
+// A count below the base is the digit, and any other count says that there is no digit: what stands before "0" or "A" wraps. A count needs
+// no branch on the range of the character, which a processor cannot predict.
 fn digit_of(hex: bool, b: u8) -> u64
     ensures { λ r. ⌜ (r < baseOf hex → r ≡ digitOf b) × (baseOf hex ≤ r → baseOf hex ≤ digitOf b) ⌝ }
 {
@@ -47,64 +72,202 @@ fn digit_of(hex: bool, b: u8) -> u64
     wrapping_sub_u64(b as u64, b'0' as u64)
 }
 
-impl NumberState {
-    pub fn start(hex: bool) -> Self
-        ensures { λ r. ⌜ Started hex r ⌝ }
-    {
-        Self {
-            value: 0,
-            hex,
-            refusal: Refusal::NONE,
+fn stage_after(stage: Stage, b: u8) -> Stage
+    ensures { λ r. ⌜ r ≡ stageAfter stage b ⌝ }
+{
+    match stage {
+        Stage::Begin => {
+            if b == SIGN {
+                return Stage::Sign;
+            }
+            if b == b'0' {
+                return Stage::Zero;
+            }
+            return Stage::Digits;
         }
+        Stage::Zero => {
+            if b == b'x' {
+                return Stage::Prefix;
+            }
+            return Stage::Digits;
+        }
+        Stage::Prefix => {
+            if b == SIGN {
+                return Stage::Sign;
+            }
+            return Stage::Digits;
+        }
+        Stage::Sign => return Stage::Digits,
+        Stage::Digits => return Stage::Digits,
     }
+}
 
-    fn refused(self, reason: Reason) -> Self
-        ensures { λ r. ⌜ r ≡ stateOf (self .hex) 0 (bare reason) ⌝ }
+fn hex_at(stage: Stage, hex: bool) -> bool
+    ensures { λ r. ⌜ r ≡ hexAt stage hex ⌝ }
+{
+    match stage {
+        Stage::Begin => hex,
+        Stage::Zero => hex,
+        Stage::Prefix => true,
+        Stage::Sign => hex,
+        Stage::Digits => hex,
+    }
+}
+
+fn is_digits(stage: Stage) -> bool
+    ensures { λ r. ⌜ r ≡ isDigits stage ⌝ }
+{
+    match stage {
+        Stage::Begin => false,
+        Stage::Zero => false,
+        Stage::Prefix => false,
+        Stage::Sign => false,
+        Stage::Digits => true,
+    }
+}
+
+fn end_reason(stage: Stage, reason: Reason) -> Reason
+    ensures { λ r. ⌜ r ≡ endReason stage reason ⌝ }
+{
+    match stage {
+        Stage::Begin => Reason::Empty,
+        Stage::Zero => reason,
+        Stage::Prefix => Reason::Empty,
+        Stage::Sign => Reason::InvalidDigit,
+        Stage::Digits => reason,
+    }
+}
+
+impl NumberState {
+    pub fn start() -> Self
+        ensures { λ r. ⌜ Started tt r ⌝ }
     {
         Self {
             value: 0,
-            hex: self.hex,
-            refusal: Refusal { carries: 0, reason },
+            reason: Reason::None,
+            hex: false,
+            stage: Stage::Begin,
         }
     }
 
     fn is_refused(self) -> bool
-        ensures { λ r. ⌜ r ≡ refused (self .refusal) ⌝ }
+        ensures { λ r. ⌜ r ≡ refused (self .reason) ⌝ }
     {
-        let refusal = self.refusal;
-        refusal.number() != 0
+        let reason = self.reason;
+        reason.number() != 0
     }
 
-    // Whether the next value fits is asked before there is a sum that could pass 64 bits; below MOST / base every digit does, whatever it is.
+    // The stage that a character leads to; after "0x" the base is 16.
+    fn advance(self, b: u8) -> Self
+        ensures { λ r. ⌜ r ≡ advanceOf self b ⌝ }
+    {
+        let before = self.stage;
+        let stage = stage_after(before, b);
+        let reason = self.reason;
+        Self {
+            value: self.value,
+            reason,
+            hex: hex_at(stage, self.hex),
+            stage,
+        }
+    }
+
+    fn in_digits(self, value: u64, reason: Reason) -> Self
+        ensures { λ r. ⌜ r ≡ inDigits (self .hex) value reason ⌝ }
+    {
+        Self {
+            value,
+            reason,
+            hex: self.hex,
+            stage: Stage::Digits,
+        }
+    }
+
+    // The test comes before the sum, which could pass 64 bits. Below MOST / base every digit fits.
+    fn read_digit(self, b: u8) -> Self
+        ensures { λ r. ⌜ r ≡ readDigit self b ⌝ }
+    {
+        let digit = digit_of(self.hex, b);
+        let base = base_of(self.hex);
+        if base <= digit {
+            return self.in_digits(0, Reason::InvalidDigit);
+        }
+        if MOST / base <= self.value {
+            if (MOST - digit) / base < self.value {
+                return self.in_digits(0, Reason::PosOverflow);
+            }
+        }
+        let reason = self.reason;
+        self.in_digits(self.value * base + digit, reason)
+    }
+
     pub fn step(mut self, b: u8) -> Self
         ensures { λ r. ⌜ Stepped (self, b) r ⌝ }
     {
         if self.is_refused() {
             return self;
         }
-        let digit = digit_of(self.hex, b);
-        let base = base_of(self.hex);
-        if base <= digit {
-            return self.refused(Reason::InvalidDigit);
+        self = self.advance(b);
+        let stage = self.stage;
+        if is_digits(stage) {
+            return self.read_digit(b);
         }
-        if MOST / base <= self.value {
-            if (MOST - digit) / base < self.value {
-                return self.refused(Reason::PosOverflow);
-            }
-        }
-        self.value = self.value * base + digit;
         self
+    }
+
+    // Whether there was a character.
+    pub fn is_open(self) -> bool
+        ensures { λ r. ⌜ Opened self r ⌝ }
+    {
+        let stage = self.stage;
+        match stage {
+            Stage::Begin => return false,
+            Stage::Zero => return true,
+            Stage::Prefix => return true,
+            Stage::Sign => return true,
+            Stage::Digits => return true,
+        }
+    }
+
+    pub fn finish(self) -> Number
+        ensures { λ r. ⌜ Finished self r ⌝ }
+    {
+        let stage = self.stage;
+        let before = self.reason;
+        let reason = end_reason(stage, before);
+        Number {
+            value: self.value,
+            refusal: Refusal { carries: 0, reason },
+        }
     }
 }
 
-// It ends at a refusal, since what stands behind the first offender changes nothing.
-fn steps(from: NumberState, s: &[u8]) -> NumberState
-    ensures { λ r. ⌜ r ≡ stepsOf from (now (s .entry)) ⌝ }
+// Takes one character, if there is one that stands before the digits.
+fn take_lead(from: Lead, s: &[u8]) -> Lead
+    ensures { λ r. ⌜ r ≡ leadOf from (drop (from .at) (now (s .entry))) ⌝ }
+{
+    let at = from.at;
+    if s.len() <= at {
+        return from;
+    }
+    let before = from.state;
+    let state = before.advance(s[at]);
+    let stage = state.stage;
+    if is_digits(stage) {
+        return from;
+    }
+    Lead { state, at: at + 1 }
+}
+
+// It ends at a refusal, since the characters after the first offender change nothing.
+fn read_digits(from: NumberState, s: &[u8], at: usize) -> NumberState
+    requires { ⌜ refused (from .reason) ≡ false ⌝ }
+    ensures { λ r. ⌜ r ≡ readDigits from (drop at (now (s .entry))) ⌝ }
 {
     let mut state = from;
-    let mut i = 0;
+    let mut i = at;
     while i < s.len() {
-        state = state.step(s[i]);
+        state = state.read_digit(s[i]);
         if state.is_refused() {
             return state;
         }
@@ -113,53 +276,20 @@ fn steps(from: NumberState, s: &[u8]) -> NumberState
     state
 }
 
-fn is_hex(s: &[u8]) -> bool
-    ensures { λ r. ⌜ r ≡ isHex (now (s .entry)) ⌝ }
-{
-    if s.len() < 2 {
-        return false;
-    }
-    s[0] == b'0' && s[1] == b'x'
-}
-
-// What follows a "+", where anything does.
-fn unsigned_part(s: &[u8]) -> &[u8]
-    ensures { λ r. ⌜ now r ≡ unsigned (now (s .entry)) ⌝ }
-{
-    if s.len() < 2 {
-        return s;
-    }
-    if s[0] != b'+' {
-        return s;
-    }
-    &s[1..]
-}
-
-fn number_in(hex: bool, s: &[u8]) -> Number
-    ensures { λ r. ⌜ r ≡ numberIn hex (now (s .entry)) ⌝ }
-{
-    if s.len() == 0 {
-        return Number {
-            value: 0,
-            refusal: Refusal {
-                carries: 0,
-                reason: Reason::Empty,
-            },
-        };
-    }
-    let state = steps(NumberState::start(hex), unsigned_part(s));
-    let refusal = state.refusal;
-    Number {
-        value: state.value,
-        refusal,
-    }
-}
-
+// A step for each byte. At most three characters stand before the digits: "0x+". The digits are read in a loop of their own, which is
+// compiled once for each base, where the base is a constant.
 pub fn parse_number(s: &[u8]) -> Number
     ensures { λ r. ⌜ Parsed (now (s .entry)) r ⌝ }
 {
-    if is_hex(s) {
-        return number_in(true, &s[2..]);
+    let start = Lead {
+        state: NumberState::start(),
+        at: 0,
+    };
+    let last = take_lead(take_lead(take_lead(start, s), s), s);
+    let state = last.state;
+    let at = last.at;
+    if state.hex {
+        return read_digits(state, s, at).finish();
     }
-    number_in(false, s)
+    read_digits(state, s, at).finish()
 }

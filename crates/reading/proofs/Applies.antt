@@ -10,7 +10,7 @@ use borrow.Author.Tests.{eq-eqb}
 use Rattle.promise.specs.Member.{member}
 use Rattle.promise.proofs.Tests.{both-left, both-right, both-intro, true-is, is-true, or-left, or-right, member-of, of-member, every, every-mem}
 use Rattle.texts.specs.Rules.{Text}
-use Rattle.texts.specs.Pool.{onList, says, ruleAt}
+use Rattle.texts.specs.Pool.{onList, describes, ruleAt}
 use Rattle.refusals.specs.Refusals.{reasonNumber}
 use Rattle.records.specs.Bits.{fieldOf}
 use Rattle.records.specs.Kinds.{Kind, Free, Unchecked, Checked, Coded, kindOf}
@@ -35,9 +35,9 @@ on-list x (t ∷ ts) (List·Memᴰ·head e) =
     or-left (eqb (x .value) (t .value)) (onList ts (x .value)) (is-true (eq-eqb (x .value) (t .value) (ap (λ (y : Text). y .value) e)))
 on-list x (t ∷ ts) (List·Memᴰ·tail m) = or-right (eqb (x .value) (t .value)) (onList ts (x .value)) (on-list x ts m)
 
-pub listed-says : {rule value : ℕ} → Listed rule value → T (says rule value)
-unfolding says
-listed-says {rule} {value} l = on-list (record { value = value; text = l .text }) (ruleAt rule .texts) (l .among)
+pub listed-describes : {rule value : ℕ} → Listed rule value → T (describes rule value)
+unfolding describes
+listed-describes {rule} {value} l = on-list (record { value = value; text = l .text }) (ruleAt rule .texts) (l .among)
 
 record Among (ts : List Text) (v : ℕ) : Type 0 where
   entry : Text
@@ -53,9 +53,9 @@ among-list (x ∷ xs) v t = by (eqb v (x .value)) refl t (among-list xs v)
     by true e s rest = record { entry = x; its = eqb→eq v (x .value) (is-true e); among = List·Memᴰ·head refl }
     by false e s rest = record { entry = rest s .entry; its = rest s .its; among = List·Memᴰ·tail (rest s .among) }
 
-pub says-listed : (rule value : ℕ) → T (says rule value) → Listed rule value
-unfolding says
-says-listed rule value t =
+pub describes-listed : (rule value : ℕ) → T (describes rule value) → Listed rule value
+unfolding describes
+describes-listed rule value t =
     let a : Among (ruleAt rule .texts) value = among-list (ruleAt rule .texts) value t in
     record { text = a .entry .text; among = subst (λ (n : ℕ). List·Memᴰ (record { value = n; text = a .entry .text }) (ruleAt rule .texts)) (sym (a .its)) (a .among) }
 

@@ -12,7 +12,7 @@ use borrow.Author.Tests.{eq-eqb, ltb-true, ltb-false, not-true}
 use Rattle.promise.specs.Member.{member}
 use Rattle.promise.proofs.Tests.{every, every-mem, both-left, both-right, from, from-at, true-is, is-true, of-member}
 use Rattle.texts.specs.Rules.{rules, className, debugStatus, faultStatus, serrorStatus}
-use Rattle.texts.specs.Pool.{says, onList, ruleAt}
+use Rattle.texts.specs.Pool.{describes, onList, ruleAt}
 use Rattle.refusals.specs.Refusals.{reasonNumber, refusalNumber, noRefusal}
 use Rattle.refusals.specs.declared.Reason.{Reason}
 use Rattle.refusals.specs.declared.Reason.the-variants.{InvalidRes0, InvalidEc, InvalidFsc, InvalidSet, InvalidAet, InvalidAm, InvalidLd64bIss, Unreached}
@@ -22,17 +22,17 @@ use Rattle.records.specs.Rows.{rowKind}
 use Rattle.records.specs.Kinds.{Kind, Free, Unchecked, Checked, Coded, reasonOf, kindOf}
 use Rattle.records.specs.declared.Row.{Row}
 use Rattle.tables.specs.Shape.{Test, Condition, Line, Table}
-use Rattle.tables.specs.Applying.{asks}
+use Rattle.tables.specs.Applying.{isCheck}
 use Rattle.tables.specs.Tables.{reserved, class, Served, layouts, res0, wf, mcr, mcrr, ldc, sve, ld64b, bti, pauth, hvc, brk, fp, breakpoint, softwareStep, watchpoint, instructionAbort, dataAbort, serror, undivided}
 use Rattle.esr.specs.Promises.{Decoded}
 use Rattle.esr.specs.declared.Answer.{Answer}
 use Rattle.reading.specs.Reading.{HasBits, Holding, Fulfils, Meets, Applying, none, there, away, Listed, Allowed, Classed}
-use Rattle.reading.specs.Refusing.{Met, Unmet, notZero, notListed, Asking, Ordered, none, asked, away, Checks, unserved, served, First, here, later, Refusing}
+use Rattle.reading.specs.Refusing.{Met, Unmet, notZero, notListed, CheckAt, Ordered, none, check, away, Checks, unserved, served, First, here, later, Refusing}
 use Rattle.reading.specs.Given.{ClassIn, RowOf, atTop, inIss, Reserved, aborts, debugs, NoStatus, ofAbort, ofDebug, ofSError, AetRead, GivenWhen}
 use Rattle.reading.proofs.HasBits.{bits-is, bits-of}
-use Rattle.reading.proofs.Applies.{says-listed}
+use Rattle.reading.proofs.Applies.{describes-listed}
 use Rattle.reading.proofs.Served.{ClassOf, unserved as noneServes, servedBy, class-of}
-use Rattle.reading.proofs.Ordered.{asks-test, test-asks}
+use Rattle.reading.proofs.Ordered.{is-check-test, test-is-check}
 use Rattle.reading.proofs.Reading.{refused-refusing}
 
 -- The test of a line of a layout.
@@ -72,7 +72,7 @@ abbrev onlyFor : List ℕ → List ℕ → Bool
 onlyFor cs classes = every (λ i c. member c cs) 0 classes
 
 abbrev lacks : List ℕ → ℕ → Row → Bool
-lacks xs n r = from (λ x. says (r .rule) x || member x xs) 0 n
+lacks xs n r = from (λ x. describes (r .rule) x || member x xs) 0 n
 
 abbrev for : ℕ → Row → Bool → Bool
 for n r b = cond (eqb (kindNumber (rowKind r)) n) b true
@@ -100,10 +100,10 @@ abbrev status : Row → Bool
 status r = at 0 6 r && (eqb (r .rule) (serrorStatus .number) && eqb (kindNumber (rowKind r)) 3)
 
 abbrev statusOnly : ℕ → Line → Bool
-statusOnly i l = not (eqb (l .row .start) 0) || (not (asks (rowKind (l .row))) || status (l .row))
+statusOnly i l = not (eqb (l .row .start) 0) || (not (isCheck (rowKind (l .row))) || status (l .row))
 
 abbrev statusThere : Line → Bool
-statusThere l = (status (l .row) && asks (rowKind (l .row))) && every (λ i c. clears 24 c) 0 (l .conditions)
+statusThere l = (status (l .row) && isCheck (rowKind (l .row))) && every (λ i c. clears 24 c) 0 (l .conditions)
 
 abbrev statusFirst : Table → Bool
 statusFirst t = firstIs 0 (t .order) && (every statusOnly 0 (t .lines) && some statusThere (t .lines))
@@ -139,7 +139,7 @@ testedTable i s = every (tested s) 0 (s .table .lines)
 
 -- the computed test
 all-tested : T (every testedTable 0 layouts)
-unfolding layouts res0 wf mcr mcrr ldc sve ld64b bti pauth hvc brk fp breakpoint softwareStep watchpoint instructionAbort dataAbort serror undivided rules says onList ruleAt kindOf
+unfolding layouts res0 wf mcr mcrr ldc sve ld64b bti pauth hvc brk fp breakpoint softwareStep watchpoint instructionAbort dataAbort serror undivided rules describes onList ruleAt kindOf
 all-tested = tt
 
 -- What the test shows of a line whose row is not met.
@@ -154,15 +154,15 @@ either false b t f g = g t
 or-else : (a b : Bool) → T (a || b) → (T a → ⊥) → T b
 or-else a b t h = either a b t (λ x. absurd (h x)) (λ y. y)
 
-bits-place : {v x a b s w : ℕ} → a ≡ s → b ≡ w → HasBits v a b x → HasBits v s w x
-bits-place {v} {x} {a} {b} {s} {w} p q o = subst (λ (y : ℕ). HasBits v s y x) q (subst (λ (y : ℕ). HasBits v y b x) p o)
+bits-shifted : {v x a b s w : ℕ} → a ≡ s → b ≡ w → HasBits v a b x → HasBits v s w x
+bits-shifted {v} {x} {a} {b} {s} {w} p q o = subst (λ (y : ℕ). HasBits v s y x) q (subst (λ (y : ℕ). HasBits v y b x) p o)
 
 just-own : (v s w x : ℕ) (t : Test) → T (just s w x t) → Holding v t → HasBits v s w x
 just-own v s w x t j m =
     let u : _ = both-right (eqb (t .start) s) _ j in
     let k : T (every (λ i y. eqb y x) 0 (t .among)) = both-right (member x (t .among)) _ (both-right (eqb (t .width) w) _ u) in
     subst (HasBits v s w) (eqb→eq (m .value) x (every-mem (λ i y. eqb y x) (m .value) 0 (t .among) k (m .among) .1))
-    (bits-place (eqb→eq (t .start) s (both-left (eqb (t .start) s) _ j)) (eqb→eq (t .width) w (both-left (eqb (t .width) w) _ u)) (m .has))
+    (bits-shifted (eqb→eq (t .start) s (both-left (eqb (t .start) s) _ j)) (eqb→eq (t .width) w (both-left (eqb (t .width) w) _ u)) (m .has))
 
 just-holds : (v s w x : ℕ) (t : Test) → T (just s w x t) → HasBits v s w x → Holding v t
 just-holds v s w x t j o =
@@ -170,7 +170,7 @@ just-holds v s w x t j o =
     record {
       value = x;
       has =
-          bits-place (sym (eqb→eq (t .start) s (both-left (eqb (t .start) s) _ j))) (sym (eqb→eq (t .width) w (both-left (eqb (t .width) w) _ u))) o;
+          bits-shifted (sym (eqb→eq (t .start) s (both-left (eqb (t .start) s) _ j))) (sym (eqb→eq (t .width) w (both-left (eqb (t .width) w) _ u))) o;
       among = of-member x (t .among) (both-left (member x (t .among)) _ (both-right (eqb (t .width) w) _ u));
     }
 
@@ -244,7 +244,7 @@ module _ (v : ℕ) (f : Refusal) (s : Served) (k : Classed v s) (i : ℕ) (l : L
   bits-at a b x =
       let p : l .row .start ≡ a = eqb→eq (l .row .start) a (both-left (eqb (l .row .start) a) _ x) in
       let q : l .row .width ≡ b = eqb→eq (l .row .width) b (both-right (eqb (l .row .start) a) _ x) in
-      bits-place p q (unmet-bits u)
+      bits-shifted p q (unmet-bits u)
 
   class-in : (cs : List ℕ) → T (onlyFor cs (s .classes)) → ClassIn v cs
   class-in cs x =
@@ -276,9 +276,9 @@ module _ (v : ℕ) (f : Refusal) (s : Served) (k : Classed v s) (i : ℕ) (l : L
   value-in xs b x h e =
       let c : ℕ = f .carries in
       of-member c xs
-      (or-else (says (l .row .rule) c) (member c xs)
-      (subst (λ (y : ℕ). T (says (l .row .rule) y || member y xs)) (zero-add c) (from-at (λ y. says (l .row .rule) y || member y xs) 0 b c x h))
-      (λ y. unmet-list u e (says-listed (l .row .rule) c y)))
+      (or-else (describes (l .row .rule) c) (member c xs)
+      (subst (λ (y : ℕ). T (describes (l .row .rule) y || member y xs)) (zero-add c) (from-at (λ y. describes (l .row .rule) y || member y xs) 0 b c x h))
+      (λ y. unmet-list u e (describes-listed (l .row .rule) c y)))
 
   -- what the test says of a row that refuses by a number
   by-number : (n : ℕ) (reason : Reason) (b : Bool) → T (for n (l .row) b) → reasonNumber reason ≡ n → f .reason ≡ reason → T b
@@ -367,9 +367,9 @@ first-row (r ∷ rs) (later m f) = let x : _ = first-row rs f in (x .0, List·Me
 
 ordered-among : (row : Row) (rows : List Row) (ss : List ℕ) (cs : List Row) → Ordered rows ss cs → List·Memᴰ row cs → List·Memᴰ row rows
 ordered-among row rows [] cs none m = absurd (List·Memᴰ·not-nil m)
-ordered-among row rows (s ∷ ss) cs (asked a o) m = by a (List·Memᴰ·cases-cons m) (ordered-among row rows ss _ o)
+ordered-among row rows (s ∷ ss) cs (check a o) m = by a (List·Memᴰ·cases-cons m) (ordered-among row rows ss _ o)
   where
-    by : {r : Row} {rs : List Row} → Asking rows s r → (row ≡ r) ⊎ List·Memᴰ row rs → (List·Memᴰ row rs → List·Memᴰ row rows) → List·Memᴰ row rows
+    by : {r : Row} {rs : List Row} → CheckAt rows s r → (row ≡ r) ⊎ List·Memᴰ row rs → (List·Memᴰ row rs → List·Memᴰ row rows) → List·Memᴰ row rows
     by {r} a (inl e) rest = subst (λ (x : Row). List·Memᴰ x rows) (sym e) (a .among)
     by a (inr k) rest = rest k
 ordered-among row rows (s ∷ ss) cs (away h o) m = ordered-among row rows ss cs o m
@@ -421,28 +421,28 @@ status-listed Unchecked rule value e a = absurd (omega arith)
 module _ (v : ℕ) (table : Table) (rows : List Row) (a : Applying v (table .lines) rows) (t : T (statusFirst table))
     (i : ClassIn v (0x2F ∷ [])) (z : HasBits v 24 1 0) where
   -- what asks something at 0 asks for the status
-  asks-status : (row : Row) → Asking rows 0 row → T (status row)
-  asks-status row k =
+  check-status : (row : Row) → CheckAt rows 0 row → T (status row)
+  check-status row k =
       let x : Of v (table .lines) row = applying-line v row (table .lines) rows a (k .among) in
       let only : T (every statusOnly 0 (table .lines)) = both-left (every statusOnly 0 (table .lines)) _ (both-right (firstIs 0 (table .order)) _ t) in
       let y : T (statusOnly 0 (x .line)) = every-mem statusOnly (x .line) 0 (table .lines) only (x .among) .1 in
-      let q : T (not (eqb (row .start) 0) || (not (asks (rowKind row)) || status row)) =
-      subst (λ (r : Row). T (not (eqb (r .start) 0) || (not (asks (rowKind r)) || status r))) (sym (x .its)) y in
-      or-else (not (asks (rowKind row))) _
+      let q : T (not (eqb (row .start) 0) || (not (isCheck (rowKind row)) || status row)) =
+      subst (λ (r : Row). T (not (eqb (r .start) 0) || (not (isCheck (rowKind r)) || status r))) (sym (x .its)) y in
+      or-else (not (isCheck (rowKind row))) _
       (or-else (not (eqb (row .start) 0)) _ q (λ w. T-not (eqb (row .start) 0) w (is-true (eq-eqb (row .start) 0 (k .starts)))))
-      (λ w. T-not (asks (rowKind row)) w (asks-test (rowKind row) (k .asks)))
+      (λ w. T-not (isCheck (rowKind row)) w (is-check-test (rowKind row) (k .isCheck)))
 
   -- where bit 24 is 0 there is a row that does
-  status-asked : (row : Row) × Asking rows 0 row
-  status-asked =
+  status-check : (row : Row) × CheckAt rows 0 row
+  status-check =
       let x : _ = some-mem statusThere (table .lines) (both-right (every statusOnly 0 (table .lines)) _ (both-right (firstIs 0 (table .order)) _ t)) in
       let r : Row = x .0 .row in
-      let y : T (status r && asks (rowKind r)) = both-left (status r && asks (rowKind r)) _ (x .2) in (
+      let y : T (status r && isCheck (rowKind r)) = both-left (status r && isCheck (rowKind r)) _ (x .2) in (
         r,
         record {
-          among = line-applying v (x .0) (table .lines) rows a (x .1) (clear-meets v 24 0 (x .0 .conditions) (both-right (status r && asks (rowKind r)) _ (x .2)) z);
+          among = line-applying v (x .0) (table .lines) rows a (x .1) (clear-meets v 24 0 (x .0 .conditions) (both-right (status r && isCheck (rowKind r)) _ (x .2)) z);
           starts = eqb→eq (r .start) 0 (both-left (eqb (r .start) 0) _ (both-left (at 0 6 r) _ (both-left (status r) _ y)));
-          asks = test-asks (rowKind r) (both-right (status r) _ y);
+          isCheck = test-is-check (rowKind r) (both-right (status r) _ y);
         },
       )
 
@@ -454,7 +454,7 @@ module _ (v : ℕ) (table : Table) (rows : List Row) (a : Applying v (table .lin
         clear = z;
         status = m .value;
         has =
-            bits-place (eqb→eq (row .start) 0 (both-left (eqb (row .start) 0) _ (both-left (at 0 6 row) _ y)))
+            bits-shifted (eqb→eq (row .start) 0 (both-left (eqb (row .start) 0) _ (both-left (at 0 6 row) _ y)))
             (eqb→eq (row .width) 6 (both-right (eqb (row .start) 0) _ (both-left (at 0 6 row) _ y))) (m .has);
         listed =
             subst (λ (r : ℕ). Listed r (m .value)) (eqb→eq (row .rule) (serrorStatus .number) (both-left (eqb (row .rule) (serrorStatus .number)) _ w))
@@ -464,17 +464,17 @@ module _ (v : ℕ) (table : Table) (rows : List Row) (a : Applying v (table .lin
   status-before : (f : Refusal) (order : List ℕ) (cs : List Row) → T (firstIs 0 order) → Ordered rows order cs → First v f cs → f .reason ≡ InvalidAet
       → AetRead v
   status-before f [] cs b o k e = absurd b
-  status-before f (x ∷ xs) cs b (asked {row} k o) g e = by g
+  status-before f (x ∷ xs) cs b (check {row} k o) g e = by g
     where
       y : T (status row)
-      y = asks-status row (subst (λ (p : ℕ). Asking rows p row) (eqb→eq x 0 b) k)
+      y = check-status row (subst (λ (p : ℕ). CheckAt rows p row) (eqb→eq x 0 b) k)
 
       by : {rs : List Row} → First v f (row ∷ rs) → AetRead v
       by (here u) = absurd (omega (arith, status-kind row y, unmet-kind u, ap reasonNumber e))
       by (later m g) = status-met row y m
   status-before f (x ∷ xs) cs b (away h o) g e =
-      let q : _ = status-asked in
-      absurd (h (q .0) (subst (λ (p : ℕ). Asking rows p (q .0)) (sym (eqb→eq x 0 b)) (q .1)))
+      let q : _ = status-check in
+      absurd (h (q .0) (subst (λ (p : ℕ). CheckAt rows p (q .0)) (sym (eqb→eq x 0 b)) (q .1)))
 
 -- a refusal of one number is not for the reason of another
 differs : {A : Type 0} {n : ℕ} {its : Reason} (reason : Reason) → n ≡ reasonNumber its → T (not (eqb n (reasonNumber reason))) → its ≡ reason → A
@@ -515,7 +515,7 @@ module _ (v : ℕ) (f : Refusal) where
       by s k (noneServes h n q) = h s k
       by s k (servedBy x c w n q) =
           unmet-list u (λ g. omega (arith, unmet-kind u))
-          (subst (Listed (className .number)) (sym (bits-is (unmet-bits u))) (says-listed (className .number) _ n))
+          (subst (Listed (className .number)) (sym (bits-is (unmet-bits u))) (describes-listed (className .number) _ n))
 
   own-given : (s : Served) (rows cs : List Row) → Classed v s → Applying v (s .table .lines) rows → Ordered rows (s .table .order) cs
       → First v f cs → GivenWhen v f

@@ -9,8 +9,8 @@ use lib.Dec.{T, eqb, leb, eqb→eq, leb→le}
 use borrow.Author.Tests.{eq-eqb}
 use Rattle.promise.specs.Member.{member}
 use Rattle.promise.proofs.Tests.{both-left, true-is, is-true}
-use Rattle.texts.specs.Pool.{says, textCode, textAt, sayingOf}
-use Rattle.texts.proofs.Laws.{text-said}
+use Rattle.texts.specs.Pool.{describes, textCode, textAt, descriptionOf}
+use Rattle.texts.proofs.Laws.{text-described}
 use Rattle.refusals.specs.Refusals.{refusalNumber, carrying, noRefusal}
 use Rattle.refusals.specs.declared.Refusal.{Refusal}
 use Rattle.records.specs.Bits.{fieldOf}
@@ -22,19 +22,19 @@ use Rattle.esr.specs.Decode.{firstFailure}
 use Rattle.reading.specs.Refusing.{refusing, Met, Unmet, notZero, notListed, First, here, later}
 use Rattle.reading.specs.Reading.{Allowed, Holds, HoldAll, none, more}
 use Rattle.reading.proofs.HasBits.{bits-is, bits-of, inner}
-use Rattle.reading.proofs.Applies.{numbered, fitting, false-is, listed-says, says-listed}
+use Rattle.reading.proofs.Applies.{numbered, fitting, false-is, listed-describes, describes-listed}
 
 -- What a kind allows, and its computed test.
 
 allowed-test : (k : Kind) (rule value : ℕ) → Allowed k rule value → T (allows k rule value)
 allowed-test Free rule value a = tt
-allowed-test (Coded reason) rule value a = listed-says a
+allowed-test (Coded reason) rule value a = listed-describes a
 allowed-test Checked rule value a = is-true (eq-eqb value 0 a)
 allowed-test Unchecked rule value a = tt
 
 test-allowed : (k : Kind) (rule value : ℕ) → T (allows k rule value) → Allowed k rule value
 test-allowed Free rule value t = tt
-test-allowed (Coded reason) rule value t = says-listed rule value t
+test-allowed (Coded reason) rule value t = describes-listed rule value t
 test-allowed Checked rule value t = eqb→eq value 0 t
 test-allowed Unchecked rule value t = tt
 
@@ -62,8 +62,8 @@ module _ (v : ℕ) (row : Row) where
   )
   unmet-fails f (notListed h k n) = (
     false-is (meets v row)
-        (λ t. n (says-listed (row .rule) (f .carries)
-        (subst (λ (x : ℕ). T (says (row .rule) x)) (sym (bits-is h)) (subst (λ (x : Kind). T (allows x (row .rule) (valueIn v row))) k t)))),
+        (λ t. n (describes-listed (row .rule) (f .carries)
+        (subst (λ (x : ℕ). T (describes (row .rule) x)) (sym (bits-is h)) (subst (λ (x : Kind). T (allows x (row .rule) (valueIn v row))) k t)))),
     ap₂ carrying (ap reasonOf k) (sym (bits-is h)),
   )
 
@@ -73,7 +73,7 @@ module _ (v : ℕ) (row : Row) where
     where
       by : (k : Kind) → rowKind row ≡ k → allows k (row .rule) (valueIn v row) ≡ false → Unmet v row (carrying (reasonOf k) (valueIn v row))
       by Free k e = absurd (subst T e tt)
-      by (Coded reason) k e = notListed (bits-of v (row .start) (row .width)) k (λ l. subst T e (listed-says l))
+      by (Coded reason) k e = notListed (bits-of v (row .start) (row .width)) k (λ l. subst T e (listed-describes l))
       by Checked k e = notZero (bits-of v (row .start) (row .width)) k refl (λ z. subst T e (is-true (eq-eqb (valueIn v row) 0 z)))
       by Unchecked k e = absurd (subst T e tt)
 
@@ -146,18 +146,18 @@ pub holds-is : (v : ℕ) (row : Row) (x : Record) → Holds v row x → x ≡ re
 unfolding textCode
 holds-is v row x h =
     let e : x .value ≡ valueIn v row = bits-is (h .has) in
-    let t : x .text ≡ textCode (row .rule) (valueIn v row) = by (says (row .rule) (x .value)) refl ∙ ap (textCode (row .rule)) e in
+    let t : x .text ≡ textCode (row .rule) (valueIn v row) = by (describes (row .rule) (x .value)) refl ∙ ap (textCode (row .rule)) e in
     cc (eta x, eta-of v row, h .start, h .width, h .name, h .long)
   where
-    by : (b : Bool) → says (row .rule) (x .value) ≡ b → x .text ≡ textCode (row .rule) (x .value)
-    by true e = h .said (says-listed (row .rule) (x .value) (is-true e)) ∙ simp e
-    by false e = h .unsaid (λ l. subst T e (listed-says l)) ∙ simp e
+    by : (b : Bool) → describes (row .rule) (x .value) ≡ b → x .text ≡ textCode (row .rule) (x .value)
+    by true e = h .described (describes-listed (row .rule) (x .value) (is-true e)) ∙ simp e
+    by false e = h .undescribed (λ l. subst T e (listed-describes l)) ∙ simp e
 
 -- The text of a record that holds its row is what the row's rule says of its value.
-pub held-text : (v : ℕ) (row : Row) (x : Record) → Holds v row x → textAt (x .text) ≡ sayingOf (row .rule) (x .value)
+pub held-text : (v : ℕ) (row : Row) (x : Record) → Holds v row x → textAt (x .text) ≡ descriptionOf (row .rule) (x .value)
 unfolding recordOf
 held-text v row x h =
-    subst (λ (y : Record). textAt (y .text) ≡ sayingOf (row .rule) (y .value)) (sym (holds-is v row x h)) (text-said (row .rule) (valueIn v row))
+    subst (λ (y : Record). textAt (y .text) ≡ descriptionOf (row .rule) (y .value)) (sym (holds-is v row x h)) (text-described (row .rule) (valueIn v row))
 
 -- The record of a row that is met holds it.
 holds-of : (v : ℕ) (row : Row) → T (meets v row) → Holds v row (recordOf v row)
@@ -169,8 +169,8 @@ holds-of v row t =
       name = refl;
       long = refl;
       has = bits-of v (row .start) (row .width);
-      said = λ l. simp (true-is (says (row .rule) (valueIn v row)) (listed-says l));
-      unsaid = λ n. simp (false-is (says (row .rule) (valueIn v row)) (λ t. n (says-listed (row .rule) (valueIn v row) t)));
+      described = λ l. simp (true-is (describes (row .rule) (valueIn v row)) (listed-describes l));
+      undescribed = λ n. simp (false-is (describes (row .rule) (valueIn v row)) (λ t. n (describes-listed (row .rule) (valueIn v row) t)));
       allowed = meets-allowed v row t;
     }
 

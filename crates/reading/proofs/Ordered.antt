@@ -13,9 +13,9 @@ use Rattle.promise.proofs.Tests.{both-left, both-right, both-intro, is-true, ev
 use Rattle.records.specs.Rows.{valueIn, meets, rowKind}
 use Rattle.records.specs.Kinds.{Kind, Free, Unchecked, Checked, Coded, allows}
 use Rattle.records.specs.declared.Row.{Row}
-use Rattle.tables.specs.Applying.{asks, asking, askingAt, inOrder}
+use Rattle.tables.specs.Applying.{isCheck, isCheckAt, checkAt, inOrder}
 use Rattle.tables.proofs.Sound.{tiles, tiled, covers}
-use Rattle.reading.specs.Refusing.{Asks, coded, checked, Asking, Ordered, none, asked, away}
+use Rattle.reading.specs.Refusing.{IsCheck, coded, checked, CheckAt, Ordered, none, check, away}
 use Rattle.reading.proofs.Judge.{Pass}
 
 -- Rows that leave no gap start at different bits.
@@ -57,77 +57,77 @@ one-start a b (r ∷ rs) t m n e = same-start a b 25 (r ∷ rs) t m n e
 
 -- A row that asks something, and its computed test.
 
-pub asks-test : (k : Kind) → Asks k → T (asks k)
-asks-test (Coded reason) coded = tt
-asks-test Checked checked = tt
+pub is-check-test : (k : Kind) → IsCheck k → T (isCheck k)
+is-check-test (Coded reason) coded = tt
+is-check-test Checked checked = tt
 
-pub test-asks : (k : Kind) → T (asks k) → Asks k
-test-asks Free t = absurd t
-test-asks (Coded reason) t = coded
-test-asks Checked t = checked
-test-asks Unchecked t = absurd t
+pub test-is-check : (k : Kind) → T (isCheck k) → IsCheck k
+test-is-check Free t = absurd t
+test-is-check (Coded reason) t = coded
+test-is-check Checked t = checked
+test-is-check Unchecked t = absurd t
 
-asking-test : {rows : List Row} {s : ℕ} {row : Row} → Asking rows s row → T (asking s row)
-asking-test {rows} {s} {row} a = both-intro (eqb (row .start) s) (asks (rowKind row)) (is-true (eq-eqb (row .start) s (a .starts))) (asks-test (rowKind row) (a .asks))
+isCheckAt-test : {rows : List Row} {s : ℕ} {row : Row} → CheckAt rows s row → T (isCheckAt s row)
+isCheckAt-test {rows} {s} {row} a = both-intro (eqb (row .start) s) (isCheck (rowKind row)) (is-true (eq-eqb (row .start) s (a .starts))) (is-check-test (rowKind row) (a .isCheck))
 
-test-asking : (rows : List Row) (s : ℕ) (row : Row) → List·Memᴰ row rows → T (asking s row) → Asking rows s row
-test-asking rows s row m t =
+test-isCheckAt : (rows : List Row) (s : ℕ) (row : Row) → List·Memᴰ row rows → T (isCheckAt s row) → CheckAt rows s row
+test-isCheckAt rows s row m t =
     record {
       among = m;
-      starts = eqb→eq (row .start) s (both-left (eqb (row .start) s) (asks (rowKind row)) t);
-      asks = test-asks (rowKind row) (both-right (eqb (row .start) s) (asks (rowKind row)) t);
+      starts = eqb→eq (row .start) s (both-left (eqb (row .start) s) (isCheck (rowKind row)) t);
+      isCheck = test-is-check (rowKind row) (both-right (eqb (row .start) s) (isCheck (rowKind row)) t);
     }
 
 -- the row that starts at s and asks something, or that there is none
 data Look (rows : List Row) (s : ℕ) : Type 0 where
-  missing : askingAt rows s ≡ [] → ((row : Row) → Asking rows s row → ⊥) → Look rows s
-  found : (row : Row) → askingAt rows s ≡ row ∷ [] → Asking rows s row → Look rows s
+  missing : checkAt rows s ≡ [] → ((row : Row) → CheckAt rows s row → ⊥) → Look rows s
+  found : (row : Row) → checkAt rows s ≡ row ∷ [] → CheckAt rows s row → Look rows s
 
 look : (rows : List Row) (s : ℕ) → Look rows s
 look [] s = missing refl (λ row a. List·Memᴰ·not-nil (a .among))
-look (r ∷ rs) s = by (asking s r) refl (look rs s)
+look (r ∷ rs) s = by (isCheckAt s r) refl (look rs s)
   where
-    not-here : asking s r ≡ false → ((row : Row) → Asking rs s row → ⊥) → (row : Row) → T (asking s row) → (row ≡ r) ⊎ List·Memᴰ row rs → ⊥
-    not-here e h row t (inl q) = subst T e (subst (λ (x : Row). T (asking s x)) q t)
-    not-here e h row t (inr k) = h row (test-asking rs s row k t)
+    not-here : isCheckAt s r ≡ false → ((row : Row) → CheckAt rs s row → ⊥) → (row : Row) → T (isCheckAt s row) → (row ≡ r) ⊎ List·Memᴰ row rs → ⊥
+    not-here e h row t (inl q) = subst T e (subst (λ (x : Row). T (isCheckAt s x)) q t)
+    not-here e h row t (inr k) = h row (test-isCheckAt rs s row k t)
 
-    by : (b : Bool) → asking s r ≡ b → Look rs s → Look (r ∷ rs) s
-    by true e rest = found r (ap (λ (b : Bool). cond b (r ∷ []) (askingAt rs s)) e) (test-asking (r ∷ rs) s r (List·Memᴰ·head refl) (is-true e))
+    by : (b : Bool) → isCheckAt s r ≡ b → Look rs s → Look (r ∷ rs) s
+    by true e rest = found r (ap (λ (b : Bool). cond b (r ∷ []) (checkAt rs s)) e) (test-isCheckAt (r ∷ rs) s r (List·Memᴰ·head refl) (is-true e))
     by false e (missing p h) =
-        missing (ap (λ (b : Bool). cond b (r ∷ []) (askingAt rs s)) e ∙ p) (λ row a. not-here e h row (asking-test a) (List·Memᴰ·cases-cons (a .among)))
+        missing (ap (λ (b : Bool). cond b (r ∷ []) (checkAt rs s)) e ∙ p) (λ row a. not-here e h row (isCheckAt-test a) (List·Memᴰ·cases-cons (a .among)))
     by false e (found row p a) =
-        found row (ap (λ (b : Bool). cond b (r ∷ []) (askingAt rs s)) e ∙ p) (test-asking (r ∷ rs) s row (List·Memᴰ·tail (a .among)) (asking-test a))
+        found row (ap (λ (b : Bool). cond b (r ∷ []) (checkAt rs s)) e ∙ p) (test-isCheckAt (r ∷ rs) s row (List·Memᴰ·tail (a .among)) (isCheckAt-test a))
 
 -- The decoder's checks are in 01's order, and no others are.
 pub ordered-of : (rows : List Row) (ss : List ℕ) → Ordered rows ss (inOrder rows ss)
 ordered-of rows [] = none
 ordered-of rows (s ∷ ss) = by (look rows s) (ordered-of rows ss)
   where
-    by : Look rows s → Ordered rows ss (inOrder rows ss) → Ordered rows (s ∷ ss) (askingAt rows s ++ inOrder rows ss)
+    by : Look rows s → Ordered rows ss (inOrder rows ss) → Ordered rows (s ∷ ss) (checkAt rows s ++ inOrder rows ss)
     by (missing p h) rest = subst (λ (xs : List Row). Ordered rows (s ∷ ss) (xs ++ inOrder rows ss)) (sym p) (away h rest)
-    by (found row p a) rest = subst (λ (xs : List Row). Ordered rows (s ∷ ss) (xs ++ inOrder rows ss)) (sym p) (asked a rest)
+    by (found row p a) rest = subst (λ (xs : List Row). Ordered rows (s ∷ ss) (xs ++ inOrder rows ss)) (sym p) (check a rest)
 
 module _ (rows : List Row) (t : T (tiled rows)) where
   -- the row that asks something at a start is the one that is found there
-  asked-at : (s : ℕ) (row : Row) → Asking rows s row → askingAt rows s ≡ row ∷ []
-  asked-at s row a = by (look rows s)
+  check-at : (s : ℕ) (row : Row) → CheckAt rows s row → checkAt rows s ≡ row ∷ []
+  check-at s row a = by (look rows s)
     where
-      by : Look rows s → askingAt rows s ≡ row ∷ []
+      by : Look rows s → checkAt rows s ≡ row ∷ []
       by (missing p h) = absurd (h row a)
       by (found x p b) = p ∙ ap (λ (y : Row). y ∷ []) (one-start x row rows t (b .among) (a .among) (b .starts ∙ sym (a .starts)))
 
   pub ordered-is : (ss : List ℕ) (cs : List Row) → Ordered rows ss cs → cs ≡ inOrder rows ss
   ordered-is [] cs none = refl
-  ordered-is (s ∷ ss) ds (asked {row} {cs} a o) =
-      ap (λ (xs : List Row). row ∷ xs) (ordered-is ss cs o) ∙ ap (λ (xs : List Row). xs ++ inOrder rows ss) (sym (asked-at s row a))
+  ordered-is (s ∷ ss) ds (check {row} {cs} a o) =
+      ap (λ (xs : List Row). row ∷ xs) (ordered-is ss cs o) ∙ ap (λ (xs : List Row). xs ++ inOrder rows ss) (sym (check-at s row a))
   ordered-is (s ∷ ss) cs (away h o) = by (look rows s) (ordered-is ss cs o)
     where
-      by : Look rows s → cs ≡ inOrder rows ss → cs ≡ askingAt rows s ++ inOrder rows ss
+      by : Look rows s → cs ≡ inOrder rows ss → cs ≡ checkAt rows s ++ inOrder rows ss
       by (missing p k) rest = rest ∙ ap (λ (xs : List Row). xs ++ inOrder rows ss) (sym p)
       by (found row p a) rest = absurd (h row a)
 
   -- a row that asks something and whose start is in the order is checked
-  checked-row : (row : Row) → List·Memᴰ row rows → T (asks (rowKind row)) → (ss : List ℕ) → T (member (row .start) ss) → List·Memᴰ row (inOrder rows ss)
+  checked-row : (row : Row) → List·Memᴰ row rows → T (isCheck (rowKind row)) → (ss : List ℕ) → T (member (row .start) ss) → List·Memᴰ row (inOrder rows ss)
   checked-row row m k [] h = absurd h
   checked-row row m k (s ∷ ss) h = by (eqb (row .start) s) refl h (checked-row row m k ss)
     where
@@ -136,31 +136,31 @@ module _ (rows : List Row) (t : T (tiled rows)) where
       behind (x ∷ xs) n = List·Memᴰ·tail (behind xs n)
 
       by : (b : Bool) → eqb (row .start) s ≡ b → T (cond b true (member (row .start) ss)) → (T (member (row .start) ss) → List·Memᴰ row (inOrder rows ss))
-          → List·Memᴰ row (askingAt rows s ++ inOrder rows ss)
+          → List·Memᴰ row (checkAt rows s ++ inOrder rows ss)
       by true e h rest =
           subst (λ (xs : List Row). List·Memᴰ row (xs ++ inOrder rows ss))
-          (sym (asked-at s row (test-asking rows s row m (both-intro (eqb (row .start) s) (asks (rowKind row)) (is-true e) k)))) (List·Memᴰ·head refl)
-      by false e h rest = behind (askingAt rows s) (rest h)
+          (sym (check-at s row (test-isCheckAt rows s row m (both-intro (eqb (row .start) s) (isCheck (rowKind row)) (is-true e) k)))) (List·Memᴰ·head refl)
+      by false e h rest = behind (checkAt rows s) (rest h)
 
 -- what is checked is one of the rows
 pub checked-among : (rows : List Row) (ss : List ℕ) (row : Row) → List·Memᴰ row (inOrder rows ss) → List·Memᴰ row rows
 checked-among rows [] row m = absurd (List·Memᴰ·not-nil m)
 checked-among rows (s ∷ ss) row m = by (look rows s) (checked-among rows ss row) m
   where
-    split : {x : Row} → Asking rows s x → (row ≡ x) ⊎ List·Memᴰ row (inOrder rows ss) → (List·Memᴰ row (inOrder rows ss) → List·Memᴰ row rows) → List·Memᴰ row rows
+    split : {x : Row} → CheckAt rows s x → (row ≡ x) ⊎ List·Memᴰ row (inOrder rows ss) → (List·Memᴰ row (inOrder rows ss) → List·Memᴰ row rows) → List·Memᴰ row rows
     split a (inl e) rest = subst (λ (y : Row). List·Memᴰ y rows) (sym e) (a .among)
     split a (inr k) rest = rest k
 
-    by : Look rows s → (List·Memᴰ row (inOrder rows ss) → List·Memᴰ row rows) → List·Memᴰ row (askingAt rows s ++ inOrder rows ss) → List·Memᴰ row rows
+    by : Look rows s → (List·Memᴰ row (inOrder rows ss) → List·Memᴰ row rows) → List·Memᴰ row (checkAt rows s ++ inOrder rows ss) → List·Memᴰ row rows
     by (missing p h) rest m = rest (subst (λ (xs : List Row). List·Memᴰ row (xs ++ inOrder rows ss)) p m)
     by (found x p a) rest m = split a (List·Memᴰ·cases-cons (subst (λ (xs : List Row). List·Memᴰ row (xs ++ inOrder rows ss)) p m)) rest
 
 -- a row that asks nothing is met
-silent : (v : ℕ) (row : Row) → asks (rowKind row) ≡ false → T (meets v row)
+silent : (v : ℕ) (row : Row) → isCheck (rowKind row) ≡ false → T (meets v row)
 unfolding meets
 silent v row e = by (rowKind row) e
   where
-    by : (k : Kind) → asks k ≡ false → T (allows k (row .rule) (valueIn v row))
+    by : (k : Kind) → isCheck k ≡ false → T (allows k (row .rule) (valueIn v row))
     by Free e = tt
     by (Coded reason) e = absurd (subst T e tt)
     by Checked e = absurd (subst T e tt)
@@ -169,9 +169,9 @@ silent v row e = by (rowKind row) e
 -- All rows are met exactly where those that are checked are.
 module _ (v : ℕ) (rows : List Row) (order : List ℕ) where
   pub checks-pass : T (tiled rows) → T (every (covers order) 0 rows) → Pass v (inOrder rows order) → Pass v rows
-  checks-pass t c p row m = by (asks (rowKind row)) refl (every-mem (covers order) row 0 rows c m .1)
+  checks-pass t c p row m = by (isCheck (rowKind row)) refl (every-mem (covers order) row 0 rows c m .1)
     where
-      by : (b : Bool) → asks (rowKind row) ≡ b → T (not b || member (row .start) order) → T (meets v row)
+      by : (b : Bool) → isCheck (rowKind row) ≡ b → T (not b || member (row .start) order) → T (meets v row)
       by true e h = p row (checked-row rows t row m (is-true e) order h)
       by false e h = silent v row e
 

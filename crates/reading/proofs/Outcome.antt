@@ -10,7 +10,7 @@ use borrow.Author.Tests.{ne-eqb}
 use Rattle.promise.specs.Member.{member}
 use Rattle.promise.proofs.Tests.{true-is, both-right, member-of, of-member}
 use Rattle.texts.specs.Rules.{className}
-use Rattle.texts.specs.Pool.{says}
+use Rattle.texts.specs.Pool.{describes}
 use Rattle.refusals.specs.Refusals.{refusalNumber, passed, carrying, noRefusal}
 use Rattle.refusals.specs.declared.Reason.the-variants.{InvalidEc}
 use Rattle.refusals.specs.declared.Refusal.{Refusal}
@@ -41,16 +41,16 @@ abbrev allChecks : Served → ℕ → List Row
 allChecks s esr = reserved ∷ class ∷ checksFor (s .table) (issOf esr)
 
 module _ (esr : ℕ) where
-  class-met : T (says (className .number) (classOf esr)) → meets esr class ≡ true
+  class-met : T (describes (className .number) (classOf esr)) → meets esr class ≡ true
   unfolding meets kindOf
-  class-met t = true-is (says (className .number) (classOf esr)) t
+  class-met t = true-is (describes (className .number) (classOf esr)) t
 
-  class-unmet : (T (says (className .number) (classOf esr)) → ⊥) → meets esr class ≡ false
+  class-unmet : (T (describes (className .number) (classOf esr)) → ⊥) → meets esr class ≡ false
   unfolding meets kindOf
-  class-unmet h = false-is (says (className .number) (classOf esr)) h
+  class-unmet h = false-is (describes (className .number) (classOf esr)) h
 
   -- Where no layout serves the class.
-  module _ (h : (s : Served) → Classed esr s → ⊥) (n : T (says (className .number) (classOf esr)) → ⊥)
+  module _ (h : (s : Served) → Classed esr s → ⊥) (n : T (describes (className .number) (classOf esr)) → ⊥)
       (q : classAnswer layouts esr ≡ refused (carrying InvalidEc (classOf esr))) where
     unserved-answer : answerOf esr ≡ refused (firstFailure esr (reserved ∷ class ∷ []))
     unfolding answerOf firstFailure refusalOf kindOf
@@ -88,7 +88,7 @@ module _ (esr : ℕ) where
         (each-cons (λ r. T (numbered (rowKind r))) class (checksFor (s .table) (issOf esr)) tt
         (λ r m. both-right (leb (r .start + r .width) 25) _ (checks-fit r m)))
 
-    served-answer : T (says (className .number) (classOf esr)) → classAnswer layouts esr ≡ tableAnswer (s .table) esr (issOf esr)
+    served-answer : T (describes (className .number) (classOf esr)) → classAnswer layouts esr ≡ tableAnswer (s .table) esr (issOf esr)
         → answerOf esr ≡ cond (passed (firstFailure esr (allChecks s esr))) (accepted (recordsFor (s .table) esr (issOf esr))) (refused (firstFailure esr (allChecks s esr)))
     unfolding answerOf tableAnswer failureFor firstFailure refusalOf kindOf
     served-answer n q = by (meets esr reserved)

@@ -12,7 +12,7 @@ use Rattle.esr.specs.Promises.{Decoded}
 use Rattle.esr.specs.declared.Answer.{Answer}
 use Rattle.reading.specs.Reading.{Reading}
 use Rattle.reading.specs.Refusing.{refusing, Refusing}
-use Rattle.reading.specs.Told.{Told}
+use Rattle.reading.specs.ReadAs.{ReadAs}
 use Rattle.reading.proofs.Outcome.{unique, one-refusal, refusing-number, not-zero, not-both, Outcome, read, refuses, outcome}
 
 -- what an answer refuses
@@ -34,10 +34,10 @@ module _ (esr : ℕ) (r : Answer) (d : Decoded esr r) where
       by (refuses f j e) = absurd (not-both esr l f k j)
 
   -- Of a value that is accepted a reading exists, and the records of the answer are that reading.
-  pub accepted-read : r .refusal ≡ noRefusal → Told esr r
+  pub accepted-read : r .refusal ≡ noRefusal → ReadAs esr r
   accepted-read h = by (outcome esr)
     where
-      by : Outcome esr → Told esr r
+      by : Outcome esr → ReadAs esr r
       by (read l j e) = record { list = l; reading = j; records = accepted-is r l (d ∙ e) .1 }
       by (refuses f j e) = absurd (not-zero f (refusing-number esr f j) (ap refusalNumber (sym (refused-is r f (d ∙ e)) ∙ h)))
 

@@ -9,7 +9,7 @@ use lib.Dec.{T, eqb, eqb→eq}
 use Rattle.promise.specs.Member.{member}
 use Rattle.promise.proofs.Tests.{true-is, is-true, from-at, member-of, of-member}
 use Rattle.texts.specs.Rules.{className}
-use Rattle.texts.specs.Pool.{says}
+use Rattle.texts.specs.Pool.{describes}
 use Rattle.refusals.specs.Refusals.{carrying}
 use Rattle.refusals.specs.declared.Reason.the-variants.{InvalidEc}
 use Rattle.records.proofs.Laws.{field-lt}
@@ -72,15 +72,15 @@ named false n t = let e : n ≡ 0 = eqb→eq n 0 t in (omega arith, λ h. absurd
 -- A value's class is served by one layout of 01, and then it has a name, and the decoder's answer is that layout's; or no layout serves it, it has
 -- no name, and the decoder refuses it.
 pub data ClassOf (esr : ℕ) : Type 0 where
-  unserved : ((s : Served) → Classed esr s → ⊥) → (T (says (className .number) (classOf esr)) → ⊥)
+  unserved : ((s : Served) → Classed esr s → ⊥) → (T (describes (className .number) (classOf esr)) → ⊥)
       → classAnswer layouts esr ≡ refused (carrying InvalidEc (classOf esr)) → ClassOf esr
-  servedBy : (s : Served) → Classed esr s → ((t : Served) → Classed esr t → t ≡ s) → T (says (className .number) (classOf esr))
+  servedBy : (s : Served) → Classed esr s → ((t : Served) → Classed esr t → t ≡ s) → T (describes (className .number) (classOf esr))
       → classAnswer layouts esr ≡ tableAnswer (s .table) esr (issOf esr) → ClassOf esr
 
 module _ (esr : ℕ) where
-  sound-at : (served layouts (classOf esr) ≤ 1) × (1 ≤ served layouts (classOf esr) → T (says (className .number) (classOf esr))) × (T (says (className .number) (classOf esr)) → 1 ≤ served layouts (classOf esr))
+  sound-at : (served layouts (classOf esr) ≤ 1) × (1 ≤ served layouts (classOf esr) → T (describes (className .number) (classOf esr))) × (T (describes (className .number) (classOf esr)) → 1 ≤ served layouts (classOf esr))
   sound-at =
-      named (says (className .number) (classOf esr)) (served layouts (classOf esr))
+      named (describes (className .number) (classOf esr)) (served layouts (classOf esr))
       (subst (λ (n : ℕ). T (classSound n)) (zero-add (classOf esr)) (from-at classSound 0 64 (classOf esr) class-sound (field-lt esr 26 6)))
 
   serves : (s : Served) → Classed esr s → T (member (classOf esr) (s .classes))

@@ -17,7 +17,7 @@ use Rattle.tables.specs.Tables.{topRows, layouts, res0, hvc}
 use Rattle.esr.specs.Decode.{firstFailure, refused, accepted, failureFor, tableAnswer, classAnswer, answerOf}
 use Rattle.esr.specs.declared.Answer.{Answer}
 use Rattle.reading.specs.Leaves.{leaves, addedUp}
-use Rattle.reading.specs.Told.{Told, Decoder}
+use Rattle.reading.specs.ReadAs.{ReadAs, Decoder}
 use Rattle.reading.proofs.Leaves.{leaves-sum}
 use Rattle.reading.proofs.Outcome.{rowsOf, Rows, reading-rows}
 use Rattle.reading.proofs.Reading.{accepted-read}
@@ -54,7 +54,7 @@ module _ (d : ℕ → Answer) (fulfils : Decoder d) where
   pub not-one-field : (esr : ℕ) → esr < 2 ^ 64 → d esr .refusal ≡ noRefusal → (x : Record) → d esr .records ≡ recordsOf (x ∷ []) → ⊥
   unfolding topRows
   not-one-field esr small h x e =
-      let t : Told esr (d esr) = accepted-read esr (d esr) (fulfils esr small) h in
+      let t : ReadAs esr (d esr) = accepted-read esr (d esr) (fulfils esr small) h in
       let l : x ∷ [] ≡ t .list = same-list (x ∷ []) (t .list) (sym e ∙ t .records) in
       let k : Rows esr (t .list) = reading-rows esr (t .list) (t .reading) in
       let n : 1 ≡ suc (suc (suc (suc (suc (length (map (recordOf esr) (rowsOf (k .layout) esr))))))) = ap length (l ∙ k .list) in

@@ -93,7 +93,7 @@ module _ (s : Records) (n : ℕ) (long : length (s .items) ≡ setRoom) (is : n 
       let l : length (take n (s .items)) ≡ n = length-take-le n (s .items) (omega (arith, within)) in
       ap leavesIn counted ∙ simp (le-ltb 5 (length (take n (s .items))) (omega arith)) (take-append-drop 4 (take n (s .items)))
 
-  -- a larger set: the first four, and those behind the fifth
+  -- a larger set: the first four, and those after the fifth
   pub many-leaves : 5 < n → leaves s ≡ drop 0 (take 4 (s .items)) ++ drop 5 (take n (s .items))
   unfolding leaves leavesIn
   many-leaves h =

@@ -42,7 +42,7 @@ pub data NoStatus (v c : ℕ) : Type 0 where
   ofDebug : ClassIn v debugs → (Listed (debugStatus .number) c → ⊥) → NoStatus v c
   ofSError : ClassIn v (0x2F ∷ []) → HasBits v 24 1 0 → (Listed (serrorStatus .number) c → ⊥) → NoStatus v c
 
--- "where AET is read": of an SError with bit 24 at 0, and behind its status, which is on its list
+-- "where AET is read": of an SError with bit 24 at 0, and after its status, which is on its list
 pub record AetRead (v : ℕ) : Type 0 where
   pub serror : ClassIn v (0x2F ∷ [])
   pub clear : HasBits v 24 1 0

@@ -1,5 +1,5 @@
 pub mod Reading
-pub mod Told
+pub mod ReadAs
 pub mod Refusing
 pub mod Given
 pub mod Leaves

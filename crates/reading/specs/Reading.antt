@@ -5,7 +5,7 @@ use Prim.Native.String.{String}
 use mathlib.Core.Bool.{Bool, true, false}
 use mathlib.Core.List.{List, [], _∷_, _++_, List·Memᴰ}
 use mathlib.Core.Path.{_≡_}
-use Rattle.texts.specs.Rules.{_says_}
+use Rattle.texts.specs.Rules.{_means_}
 use Rattle.texts.specs.Pool.{ruleAt, firstOf}
 use Rattle.records.specs.Kinds.{Kind, Free, Unchecked, Checked, Coded}
 use Rattle.records.specs.declared.Record.{Record}
@@ -50,7 +50,7 @@ pub data Applying (v : ℕ) : List Line → List Row → Type 0 where
 -- a value is on the list of a text rule, which has a text for it
 pub record Listed (rule value : ℕ) : Type 0 where
   pub text : String
-  pub among : List·Memᴰ (value says text) (ruleAt rule .texts)
+  pub among : List·Memᴰ (value means text) (ruleAt rule .texts)
 
 -- what a kind asks of its field's value: a coded field is on its list, "a checked reserved field" is 0; of others nothing
 abbrev pub Allowed : Kind → ℕ → ℕ → Type 0
@@ -66,8 +66,8 @@ pub record Holds (v : ℕ) (row : Row) (x : Record) : Type 0 where
   pub name : x .name ≡ row .name
   pub long : x .long ≡ row .long
   pub has : HasBits v (row .start) (row .width) (x .value)
-  pub said : Listed (row .rule) (x .value) → x .text ≡ firstOf (row .rule) + x .value
-  pub unsaid : (Listed (row .rule) (x .value) → ⊥) → x .text ≡ 0
+  pub described : Listed (row .rule) (x .value) → x .text ≡ firstOf (row .rule) + x .value
+  pub undescribed : (Listed (row .rule) (x .value) → ⊥) → x .text ≡ 0
   pub allowed : Allowed (rowKind row) (row .rule) (x .value)
 
 -- a record for each row, in order

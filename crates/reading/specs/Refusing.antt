@@ -30,21 +30,21 @@ pub data Unmet (v : ℕ) (row : Row) (f : Refusal) : Type 0 where
   notListed : HasBits v (row .start) (row .width) (f .carries) → rowKind row ≡ Coded (f .reason) → (Listed (row .rule) (f .carries) → ⊥) → Unmet v row f
 
 -- a kind that asks something
-pub data Asks : Kind → Type 0 where
-  coded : {reason : Reason} → Asks (Coded reason)
-  checked : Asks Checked
+pub data IsCheck : Kind → Type 0 where
+  coded : {reason : Reason} → IsCheck (Coded reason)
+  checked : IsCheck Checked
 
 -- a row of those that apply which starts at s and asks something
-pub record Asking (rows : List Row) (s : ℕ) (row : Row) : Type 0 where
+pub record CheckAt (rows : List Row) (s : ℕ) (row : Row) : Type 0 where
   pub among : List·Memᴰ row rows
   pub starts : row .start ≡ s
-  pub asks : Asks (rowKind row)
+  pub isCheck : IsCheck (rowKind row)
 
 -- the rows that ask something, in the order of their starts that the table gives; a start without such a row has no check
 pub data Ordered (rows : List Row) : List ℕ → List Row → Type 0 where
   none : Ordered rows [] []
-  asked : {s : ℕ} {ss : List ℕ} {row : Row} {cs : List Row} → Asking rows s row → Ordered rows ss cs → Ordered rows (s ∷ ss) (row ∷ cs)
-  away : {s : ℕ} {ss : List ℕ} {cs : List Row} → ((row : Row) → Asking rows s row → ⊥) → Ordered rows ss cs → Ordered rows (s ∷ ss) cs
+  check : {s : ℕ} {ss : List ℕ} {row : Row} {cs : List Row} → CheckAt rows s row → Ordered rows ss cs → Ordered rows (s ∷ ss) (row ∷ cs)
+  away : {s : ℕ} {ss : List ℕ} {cs : List Row} → ((row : Row) → CheckAt rows s row → ⊥) → Ordered rows ss cs → Ordered rows (s ∷ ss) cs
 
 -- all checks of a value in 01's order; a class that no layout serves is not on the list of EC, so that its check is the last
 pub data Checks (v : ℕ) : List Row → Type 0 where

@@ -52,7 +52,7 @@ fn held(count: usize) -> usize
     }
 }
 
-// The leaves are the first four and those behind the fifth, or the fifth where there are none behind it. Total over any set.
+// The leaves are the first four and those after the fifth, or the fifth where there are none after it. Total over any set.
 pub fn sum_back(records: Records) -> u64
     ensures { λ r. ⌜ SumBack records r ⌝ }
 {

@@ -7,7 +7,7 @@ pub field-decides : Decides Field
 field-decides (v, start, width) a b = same
 
 pub as-bit-decides : Decides AsBit
-as-bit-decides (v, place) a b = same
+as-bit-decides (v, position) a b = same
 
 pub Row-get-decides : Decides Got
 Row-get-decides (row, v) a b = same

@@ -43,8 +43,8 @@ unfolding fieldOf
 field-lt v start width = mod-lt (v / 2 ^ start) (pow-pos width)
 
 -- the assertion of the Rust's as_bit: a row of width 1 holds 0 or 1
-pub one-bit : (v place : ℕ) → (fieldOf v place 1 ≡ 0 → ⊥) → fieldOf v place 1 ≡ 1
-one-bit v place h = omega (arith, field-lt v place 1)
+pub one-bit : (v position : ℕ) → (fieldOf v position 1 ≡ 0 → ⊥) → fieldOf v position 1 ≡ 1
+one-bit v position h = omega (arith, field-lt v position 1)
 
 -- Sets.
 

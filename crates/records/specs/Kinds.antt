@@ -4,7 +4,7 @@ use mathlib.Core.Bool.{Bool, true, cond}
 use mathlib.Core.List.{List, [], _∷_, map}
 use lib.Dec.{eqb}
 use lib.ListN.{getD}
-use Rattle.texts.specs.Pool.{says}
+use Rattle.texts.specs.Pool.{describes}
 use Rattle.refusals.specs.Refusals.{reasonNumber}
 use Rattle.refusals.specs.declared.Reason.{Reason}
 use Rattle.refusals.specs.declared.Reason.the-variants.{None, InvalidRes0, InvalidEc, InvalidFsc, InvalidSet, InvalidAet, InvalidAm, InvalidLd64bIss, Unreached}
@@ -42,7 +42,7 @@ abbrev pub allows : Kind → ℕ → ℕ → Bool
 allows Free rule value = true
 allows Unchecked rule value = true
 allows Checked rule value = eqb value 0
-allows (Coded reason) rule value = says rule value
+allows (Coded reason) rule value = describes rule value
 
 -- the reason by which a kind refuses; one that asks nothing has none
 abbrev pub reasonOf : Kind → Reason

@@ -17,7 +17,7 @@ abbrev pub Field : ℕ × ℕ × ℕ → ℕ → Type 0
 Field (v, start, width) r = r ≡ fieldOf v start width
 
 abbrev pub AsBit : ℕ × ℕ → Bool → Type 0
-AsBit (v, place) r = r ≡ eqb (fieldOf v place 1) 1
+AsBit (v, position) r = r ≡ eqb (fieldOf v position 1) 1
 
 abbrev pub Got : Row × ℕ → Record → Type 0
 Got (row, v) r = r ≡ recordOf v row

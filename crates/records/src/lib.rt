@@ -22,10 +22,10 @@ pub fn field(v: u64, start: u8, width: u8) -> u64
 }
 
 // The Rust asserts that the field is one bit wide; here it is by its row.
-pub fn as_bit(v: u64, place: u8) -> bool
-    ensures { λ r. ⌜ AsBit (v, place) r ⌝ }
+pub fn as_bit(v: u64, position: u8) -> bool
+    ensures { λ r. ⌜ AsBit (v, position) r ⌝ }
 {
-    field(v, place, 1) == 1
+    field(v, position, 1) == 1
 }
 
 // The reason by which a kind of row refuses; one that asks nothing has none.
@@ -91,7 +91,7 @@ impl Row {
         }
         if kinds::CHECKED < kind {
             if kind <= kinds::LAST {
-                return lookup::says(self.rule, field(v, self.start, self.width));
+                return lookup::describes(self.rule, field(v, self.start, self.width));
             }
         }
         true
@@ -122,7 +122,7 @@ fn no_record() -> Record
     }
 }
 
-// Records in order, and places behind them that hold the empty record.
+// Records in order, and places after them that hold the empty record.
 pub struct Records {
     pub items: [Record; Records::MAX],
     pub count: usize,

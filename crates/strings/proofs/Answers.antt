@@ -6,12 +6,12 @@ use native.Mathlib.Omega.{arith}
 use borrow.Author.Tests.{leb-true, leb-false, le-leb, lt-leb}
 use lib.Dec.{leb}
 use Rattle.promise.proofs.Tests.{both-left, both-right, true-is, is-true}
-use Rattle.texts.specs.Pool.{says, onList, ruleAt}
+use Rattle.texts.specs.Pool.{describes, onList, ruleAt}
 use Rattle.texts.specs.Rules.{rules, message}
-use Rattle.texts.proofs.Laws.{says-below}
+use Rattle.texts.proofs.Laws.{describes-below}
 use Rattle.refusals.specs.Refusals.{bare}
 use Rattle.refusals.specs.declared.Reason.the-variants.{BadField}
-use Rattle.strings.specs.Asked.{valueString, binaryString, messageOf}
+use Rattle.strings.specs.Requested.{valueString, binaryString, messageOf}
 use Rattle.strings.specs.Fields.{valueText, binaryText, fits}
 use Rattle.strings.specs.Messages.{messageText, hasMessage}
 use Rattle.strings.specs.Outcomes.{refused, text}
@@ -41,44 +41,44 @@ module _ (width value : ℕ) where
 
 -- Messages: the rule of messages says something of 1 to 7, and of no other number.
 
-eight : ruleAt (message .number) .places ≡ 8
+eight : ruleAt (message .number) .codes ≡ 8
 unfolding ruleAt rules
 eight = refl
 
--- past the places of the rule nothing is said
-says-past : (n : ℕ) → 7 < n → says (message .number) n ≡ false
-says-past n h = by-test (says (message .number) n) refl
+-- past the offsets of the rule nothing is said
+describes-past : (n : ℕ) → 7 < n → describes (message .number) n ≡ false
+describes-past n h = by-test (describes (message .number) n) refl
   where
-    by-test : (b : Bool) → says (message .number) n ≡ b → b ≡ false
-    by-test true e = absurd (omega (arith, h, says-below (message .number) n (is-true e), eight))
+    by-test : (b : Bool) → describes (message .number) n ≡ b → b ≡ false
+    by-test true e = absurd (omega (arith, h, describes-below (message .number) n (is-true e), eight))
     by-test false e = refl
 
-says-few : (n : ℕ) → n ≤ 7 → says (message .number) n ≡ hasMessage n
-unfolding says onList ruleAt rules
-says-few zero h = refl
-says-few (suc zero) h = refl
-says-few (suc (suc zero)) h = refl
-says-few (suc (suc (suc zero))) h = refl
-says-few (suc (suc (suc (suc zero)))) h = refl
-says-few (suc (suc (suc (suc (suc zero))))) h = refl
-says-few (suc (suc (suc (suc (suc (suc zero)))))) h = refl
-says-few (suc (suc (suc (suc (suc (suc (suc zero))))))) h = refl
-says-few (suc (suc (suc (suc (suc (suc (suc (suc n)))))))) h = absurd (omega arith)
+describes-few : (n : ℕ) → n ≤ 7 → describes (message .number) n ≡ hasMessage n
+unfolding describes onList ruleAt rules
+describes-few zero h = refl
+describes-few (suc zero) h = refl
+describes-few (suc (suc zero)) h = refl
+describes-few (suc (suc (suc zero))) h = refl
+describes-few (suc (suc (suc (suc zero)))) h = refl
+describes-few (suc (suc (suc (suc (suc zero))))) h = refl
+describes-few (suc (suc (suc (suc (suc (suc zero)))))) h = refl
+describes-few (suc (suc (suc (suc (suc (suc (suc zero))))))) h = refl
+describes-few (suc (suc (suc (suc (suc (suc (suc (suc n)))))))) h = absurd (omega arith)
 
-says-seven : (n : ℕ) → says (message .number) n ≡ hasMessage n
-says-seven n = by-test (leb n 7) refl
+describes-seven : (n : ℕ) → describes (message .number) n ≡ hasMessage n
+describes-seven n = by-test (leb n 7) refl
   where
-    by-test : (b : Bool) → leb n 7 ≡ b → says (message .number) n ≡ hasMessage n
-    by-test true e = says-few n (leb-true n 7 e)
+    by-test : (b : Bool) → leb n 7 ≡ b → describes (message .number) n ≡ hasMessage n
+    by-test true e = describes-few n (leb-true n 7 e)
     by-test false e =
         let h : 7 < n = leb-false n 7 e in
-        says-past n h ∙ rw (le-leb 1 n (omega arith), lt-leb n 7 h)
+        describes-past n h ∙ rw (le-leb 1 n (omega arith), lt-leb n 7 h)
 
 module _ (number carried : ℕ) where
-  pub message-no : says (message .number) number ≡ false → messageOf number carried ≡ refused (bare BadField)
+  pub message-no : describes (message .number) number ≡ false → messageOf number carried ≡ refused (bare BadField)
   unfolding messageOf
-  message-no h = rw (sym (says-seven number) ∙ h)
+  message-no h = rw (sym (describes-seven number) ∙ h)
 
-  pub message-yes : says (message .number) number ≡ true → messageOf number carried ≡ text (messageText number carried)
+  pub message-yes : describes (message .number) number ≡ true → messageOf number carried ≡ text (messageText number carried)
   unfolding messageOf
-  message-yes h = rw (sym (says-seven number) ∙ h)
+  message-yes h = rw (sym (describes-seven number) ∙ h)

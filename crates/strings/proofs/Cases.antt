@@ -1,7 +1,7 @@
 -- The texts by cases, and how long each is.
 use mathlib.Core.Path.{_≡_, refl, sym, ap, _∙_}
 use mathlib.Core.Bool.{Bool, true, false, cond}
-use mathlib.Core.List.{[], _++_}
+use mathlib.Core.List.{List, [], _++_}
 use Prim.Native.Nat.{ℕ, _+_, _-_, _*_, _/_, _^_, _≤_, _<_}
 use native.Mathlib.Nat.{div-eq-of-lt, one-mul, div-lt-iff-lt-mul}
 use native.Mathlib.Omega.{arith}
@@ -11,11 +11,13 @@ use lib.ListN.{length, length-append}
 use lib.Pow.{shr-shr, pow-pos}
 use Rattle.texts.specs.Pool.{bytes, bytesAt, textCode}
 use Rattle.texts.specs.Rules.{message, messageEnd}
-use Rattle.texts.proofs.Laws.{text-said}
-use Rattle.strings.specs.Digits.{digitsOf, unpadded}
-use Rattle.strings.specs.Fields.{valueText, binaryText, behindValue, fieldText, fits}
-use Rattle.strings.specs.Messages.{messageText}
-use Rattle.strings.proofs.Numerals.{length-digits}
+use Rattle.texts.proofs.Laws.{text-described, text-short}
+use Rattle.buffer.specs.Lent.{Lent}
+use Rattle.buffer.proofs.Lent.{lent-text}
+use Rattle.digits.specs.Digits.{digitsOf, unpadded, numeral}
+use Rattle.strings.specs.Fields.{valueText, binaryText, binarySuffix, fieldText, fits}
+use Rattle.strings.specs.Messages.{messageText, messageIn}
+use Rattle.digits.proofs.Numerals.{length-digits, unpadded-few}
 
 -- how long the fixed words are
 words : (length (bytes "0x") ≡ 2) × (length (bytes " ") ≡ 1)
@@ -53,30 +55,30 @@ module _ (w v : ℕ) where
   unfolding binaryText bytes
   length-binary = rw (length-append, length-digits)
 
-  pub behind-bit : w ≡ 1 → behindValue w v ≡ []
-  unfolding behindValue
-  behind-bit a = rw (eq-eqb w 1 a)
+  pub suffix-bit : w ≡ 1 → binarySuffix w v ≡ []
+  unfolding binarySuffix
+  suffix-bit a = rw (eq-eqb w 1 a)
 
-  pub behind-wide : (w ≡ 1 → ⊥) → behindValue w v ≡ bytes " " ++ binaryText w v
-  unfolding behindValue
-  behind-wide a = rw (ne-eqb w 1 a)
+  pub suffix-wide : (w ≡ 1 → ⊥) → binarySuffix w v ≡ bytes " " ++ binaryText w v
+  unfolding binarySuffix
+  suffix-wide a = rw (ne-eqb w 1 a)
 
-  pub length-behind : (w ≡ 1 → ⊥) → length (behindValue w v) ≡ 3 + w
-  length-behind a = rw (behind-wide a, length-append, length-binary) (omega (arith, words))
+  pub length-suffix : (w ≡ 1 → ⊥) → length (binarySuffix w v) ≡ 3 + w
+  length-suffix a = rw (suffix-wide a, length-append, length-binary) (omega (arith, words))
 
-  pub length-field : length (fieldText w v) ≡ length (valueText w v) + length (behindValue w v)
+  pub length-field : length (fieldText w v) ≡ length (valueText w v) + length (binarySuffix w v)
   unfolding fieldText
-  length-field = length-append (valueText w v) (behindValue w v)
+  length-field = length-append (valueText w v) (binarySuffix w v)
 
   -- at most "false"; wider, what the width says
   pub field-most : length (fieldText w v) ≤ cond (eqb w 1) 5 (2 + (w + 3) / 4 + (3 + w))
   field-most = rw length-field (by-tests (eqb w 1) refl (eqb v 1) refl)
     where
       by-tests : (b : Bool) → eqb w 1 ≡ b → (d : Bool) → eqb v 1 ≡ d
-          → length (valueText w v) + length (behindValue w v) ≤ cond b 5 (2 + (w + 3) / 4 + (3 + w))
-      by-tests true e true f = rw (behind-bit (eqb-true w 1 e)) (omega (arith, length-true (eqb-true w 1 e) (eqb-true v 1 f)))
-      by-tests true e false f = rw (behind-bit (eqb-true w 1 e)) (omega (arith, length-false (eqb-true w 1 e) (eqb-false v 1 f)))
-      by-tests false e d f = omega (arith, length-wide (eqb-false w 1 e), length-behind (eqb-false w 1 e))
+          → length (valueText w v) + length (binarySuffix w v) ≤ cond b 5 (2 + (w + 3) / 4 + (3 + w))
+      by-tests true e true f = rw (suffix-bit (eqb-true w 1 e)) (omega (arith, length-true (eqb-true w 1 e) (eqb-true v 1 f)))
+      by-tests true e false f = rw (suffix-bit (eqb-true w 1 e)) (omega (arith, length-false (eqb-true w 1 e) (eqb-false v 1 f)))
+      by-tests false e d f = omega (arith, length-wide (eqb-false w 1 e), length-suffix (eqb-false w 1 e))
 
   -- a width of eight bits keeps it short
   pub field-short : w < 256 → length (fieldText w v) ≤ 324
@@ -114,18 +116,31 @@ module _ (w v : ℕ) where
       let n′ : v < 2 ^ w = rw one-mul at n in
       rw (le-leb 1 w h, le-leb w 64 k, lt-ltb v (2 ^ w) n′)
 
--- Messages: their texts by codes.
+  -- each part of it is shorter
+  pub value-small : w < 256 → length (valueText w v) < 2 ^ 64
+  value-small h = omega (arith, field-short h, length-field)
+
+  pub binary-small : w < 256 → length (binaryText w v) < 2 ^ 64
+  binary-small h = omega (arith, length-binary)
+
+-- Messages: of the project's own pool the text is the definition's, and it is short.
 
 module _ (number carried : ℕ) where
-  abbrev pub front : ℕ
+  abbrev front : ℕ
   front = textCode (message .number) number
 
-  abbrev pub end : ℕ
+  abbrev end : ℕ
   end = textCode (messageEnd .number) number
 
-  pub message-coded : messageText number carried ≡ bytesAt front ++ (bytes "0x" ++ (digitsOf 16 (unpadded carried) carried ++ bytesAt end))
+  message-coded : messageText number carried ≡ bytesAt front ++ (bytes "0x" ++ (numeral 16 carried ++ bytesAt end))
   unfolding messageText bytesAt
-  message-coded = rw (text-said (message .number) number, text-said (messageEnd .number) number)
+  message-coded = rw (text-described (message .number) number, text-described (messageEnd .number) number)
 
-  pub length-message : length (messageText number carried) ≡ length (bytesAt front) + (2 + (unpadded carried + length (bytesAt end)))
-  length-message = rw message-coded (simp (length-append, length-digits) (omega (arith, words)))
+  pub message-lent : {lent starting : List ℕ} → Lent lent starting → messageIn lent starting number carried ≡ messageText number carried
+  unfolding messageIn
+  message-lent own = rw (lent-text front own, lent-text end own, message-coded)
+
+  pub message-small : length (messageText number carried) < 2 ^ 64
+  message-small =
+      rw message-coded
+      (simp (length-append, length-digits) (omega (arith, words, text-short front, text-short end, unpadded-few 16 carried)))

@@ -4,9 +4,8 @@ use mathlib.Core.List.{List}
 use Prim.Native.Nat.{ℕ}
 use Rattle.promise.proofs.Laws.{same}
 use Rattle.promise.specs.Promise.{Decides}
-use Rattle.put.proofs.Decides.{one-place}
 use Rattle.strings.specs.Outcomes.{Outcome, Answers}
-use Rattle.strings.specs.Promises.{BinaryString, FieldLength, FieldPlaced, Message, ValueString}
+use Rattle.strings.specs.Promises.{BinaryString, FieldPut, Message, MessagePut, ValueString, WrittenRefused}
 use Rattle.strings.specs.declared.Written.{Written}
 
 -- an outcome and a buffer leave one answer and one buffer
@@ -22,8 +21,11 @@ value-binary-string-decides (width, value, before) = only _ before
 pub message-decides : Decides Message
 message-decides (number, carried, before) = only _ before
 
-pub field-length-decides : Decides FieldLength
-field-length-decides (width, value) a b = same
+pub Written-refused-decides : Decides WrittenRefused
+Written-refused-decides (reason, carries) a b = same
 
-pub put-field-decides : Decides FieldPlaced
-put-field-decides (before, at, width, value) = one-place _ at before
+pub put-message-decides : Decides MessagePut
+put-message-decides (before, at, lent, starting, number, carried) a b p q = same (p .is) (q .is)
+
+pub put-field-decides : Decides FieldPut
+put-field-decides (before, at, width, value) a b p q = same (p .is) (q .is)

@@ -4,7 +4,7 @@ use mathlib.Core.Bool.{Bool, cond, _&&_}
 use mathlib.Core.List.{List, [], _++_}
 use lib.Dec.{eqb, ltb, leb}
 use Rattle.texts.specs.Pool.{bytes}
-use Rattle.strings.specs.Digits.{digitsOf}
+use Rattle.digits.specs.Digits.{digitsOf}
 
 -- "width 1 prints true or false, wider "0x" and ceil(width/4) digits, small letters"
 unfoldable pub valueText : ℕ → ℕ → List ℕ
@@ -18,12 +18,12 @@ unfoldable pub binaryText : ℕ → ℕ → List ℕ
 binaryText width value = bytes "0b" ++ digitsOf 2 width value
 
 -- "A record's line is name, ": " and the value"; where it is wider than 1, "a space, "0b" and width digits"
-unfoldable pub behindValue : ℕ → ℕ → List ℕ
-behindValue width value = cond (eqb width 1) [] (bytes " " ++ binaryText width value)
+unfoldable pub binarySuffix : ℕ → ℕ → List ℕ
+binarySuffix width value = cond (eqb width 1) [] (bytes " " ++ binaryText width value)
 
 -- the value as it stands in the line
 unfoldable pub fieldText : ℕ → ℕ → List ℕ
-fieldText width value = valueText width value ++ behindValue width value
+fieldText width value = valueText width value ++ binarySuffix width value
 
 -- "width not 1..64, value not below 2^width": 12
 unfoldable pub fits : ℕ → ℕ → Bool

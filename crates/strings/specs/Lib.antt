@@ -1,6 +1,5 @@
-pub mod Digits
 pub mod Fields
 pub mod Messages
 pub mod Outcomes
-pub mod Asked
+pub mod Requested
 pub mod Promises

@@ -1,26 +1,21 @@
 // The texts that need no decoding: a field's two value strings and the refusals' messages, at the front of a lent buffer; and a value as it
-// stands in a record's line, at any place. What fills the front measures the whole text, then refuses or writes it; a refusal leaves the
-// buffer as it was.
-ghost use Rattle.refusals.specs.Refusals.{carrying};
+// stands in a record's line, and a message, from any offset on. What fills the front measures the whole text first, by an appender without a
+// buffer, then refuses or writes it; a refusal leaves the buffer as it was.
 ghost use Rattle.strings.specs.Fields.{fits as fitting};
-ghost use Rattle.strings.specs.Outcomes.{refusal as refusing};
-ghost use Rattle.strings.specs.Promises.{BinaryString, FieldLength, FieldPlaced, Message, ValueString};
+ghost use Rattle.strings.specs.Promises.{BinaryString, FieldPut, Message, MessagePut, ValueString, WrittenRefused};
 ghost use mathlib.Core.Path.{_≡_};
-use field::behind_length;
-use field::binary_length;
-use field::put_behind;
+use buffer::put_bytes;
+use buffer::put_text;
+use digits::Base;
+use digits::put_number;
 use field::put_binary;
+use field::put_binary_suffix;
 use field::put_value;
-use field::value_length;
-use messages::message_length;
-use messages::put_message;
 use refusals::Reason;
 use refusals::Refusal;
 use texts::rules;
 
-mod digits;
 mod field;
-mod messages;
 
 // The bytes written; on a refusal 0, and ShortBuffer carries the bytes needed.
 pub struct Written {
@@ -28,12 +23,14 @@ pub struct Written {
     pub bytes: usize,
 }
 
-fn refuse(reason: Reason, carries: u64) -> Written
-    ensures { λ r. ⌜ r ≡ refusing (carrying reason carries) ⌝ }
-{
-    Written {
-        refusal: Refusal { carries, reason },
-        bytes: 0,
+impl Written {
+    pub fn refused(reason: Reason, carries: u64) -> Self
+        ensures { λ r. ⌜ WrittenRefused (reason, carries) r ⌝ }
+    {
+        Written {
+            refusal: Refusal { carries, reason },
+            bytes: 0,
+        }
     }
 }
 
@@ -53,16 +50,17 @@ pub fn value_string(width: u64, value: u64, buf: &mut [u8]) -> Written
     ensures { λ r. ⌜ ValueString (width, value, now (buf .entry)) (r, now (buf .exit)) ⌝ }
 {
     if !fits(width, value) {
-        return refuse(Reason::BadField, 0);
+        return Written::refused(Reason::BadField, 0);
     }
-    let digits = value_length(width as u8, value);
-    if buf.len() < digits {
-        return refuse(Reason::ShortBuffer, digits as u64);
+    let mut none = [0u8; 0];
+    let bytes = put_value(&mut none, 0, width as u8, value);
+    if buf.len() < bytes {
+        return Written::refused(Reason::ShortBuffer, bytes as u64);
     }
     put_value(buf, 0, width as u8, value);
     Written {
         refusal: Refusal::NONE,
-        bytes: digits,
+        bytes,
     }
 }
 
@@ -70,16 +68,17 @@ pub fn value_binary_string(width: u64, value: u64, buf: &mut [u8]) -> Written
     ensures { λ r. ⌜ BinaryString (width, value, now (buf .entry)) (r, now (buf .exit)) ⌝ }
 {
     if !fits(width, value) {
-        return refuse(Reason::BadField, 0);
+        return Written::refused(Reason::BadField, 0);
     }
-    let bits = binary_length(width as u8);
-    if buf.len() < bits {
-        return refuse(Reason::ShortBuffer, bits as u64);
+    let mut none = [0u8; 0];
+    let bytes = put_binary(&mut none, 0, width as u8, value);
+    if buf.len() < bytes {
+        return Written::refused(Reason::ShortBuffer, bytes as u64);
     }
     put_binary(buf, 0, width as u8, value);
     Written {
         refusal: Refusal::NONE,
-        bytes: bits,
+        bytes,
     }
 }
 
@@ -87,38 +86,46 @@ pub fn value_binary_string(width: u64, value: u64, buf: &mut [u8]) -> Written
 pub fn message(number: u64, carried: u64, buf: &mut [u8]) -> Written
     ensures { λ r. ⌜ Message (number, carried, now (buf .entry)) (r, now (buf .exit)) ⌝ }
 {
-    if !lookup::says(rules::MESSAGE, number) {
-        return refuse(Reason::BadField, 0);
+    if !lookup::describes(rules::MESSAGE, number) {
+        return Written::refused(Reason::BadField, 0);
     }
-    let starts = texts::starting_places();
-    let words = message_length(&starts, number, carried);
-    if buf.len() < words {
-        return refuse(Reason::ShortBuffer, words as u64);
-    }
+    let starts = texts::text_starts();
     let pool = texts::pool_bytes();
-    put_message(buf, &pool, &starts, number, carried);
+    let mut none = [0u8; 0];
+    let bytes = put_message(&mut none, 0, &pool, &starts, number, carried);
+    if buf.len() < bytes {
+        return Written::refused(Reason::ShortBuffer, bytes as u64);
+    }
+    put_message(buf, 0, &pool, &starts, number, carried);
     Written {
         refusal: Refusal::NONE,
-        bytes: words,
+        bytes,
     }
 }
 
-pub fn field_length(width: u8, value: u64) -> usize
-    ensures { λ r. ⌜ FieldLength (width, value) r ⌝ }
+// What stands before the number that a refusal carries, the number, what stands after it.
+pub fn put_message(
+    buf: &mut [u8],
+    at: usize,
+    pool: &[u8],
+    starts: &[u16],
+    number: u64,
+    carried: u64,
+) -> usize
+    ensures { λ r. ⌜ MessagePut (now (buf .entry), at, now (pool .entry), now (starts .entry), number, carried) (r, now (buf .exit)) ⌝ }
 {
-    value_length(width, value) + behind_length(width)
+    let front = lookup::text_code(rules::MESSAGE, number);
+    let end = lookup::text_code(rules::MESSAGE_END, number);
+    let a = put_text(buf, at, pool, starts, front);
+    let b = put_bytes(buf, a, b"0x");
+    let c = put_number(buf, b, Base::Hex, carried);
+    put_text(buf, c, pool, starts, end)
 }
 
-// The room is looked at first, and without a sum: its two parts are written both or not at all.
+// A value as it stands in a record's line.
 pub fn put_field(buf: &mut [u8], at: usize, width: u8, value: u64) -> usize
-    ensures { λ r. ⌜ FieldPlaced (now (buf .entry), at, width, value) (r, now (buf .exit)) ⌝ }
+    ensures { λ r. ⌜ FieldPut (now (buf .entry), at, width, value) (r, now (buf .exit)) ⌝ }
 {
-    if buf.len() < at {
-        return at;
-    }
-    if buf.len() - at < field_length(width, value) {
-        return at;
-    }
     let next = put_value(buf, at, width, value);
-    put_behind(buf, next, width, value)
+    put_binary_suffix(buf, next, width, value)
 }

@@ -9,13 +9,13 @@ use Rattle.promise.specs.Member.{member}
 use Rattle.promise.proofs.Tests.{both-left, both-right, from, every, every-mem}
 use Rattle.texts.specs.Names.{names}
 use Rattle.texts.specs.Rules.{rules, className}
-use Rattle.texts.specs.Pool.{code, placeIn, says, onList, ruleAt}
+use Rattle.texts.specs.Pool.{code, indexIn, describes, onList, ruleAt}
 use Rattle.refusals.specs.Refusals.{reasonNumber}
 use Rattle.records.specs.Kinds.{Kind, Free, Unchecked, Checked, Coded, kinds, kindOf}
 use Rattle.records.specs.Rows.{rowKind}
 use Rattle.records.specs.declared.Row.{Row}
 use Rattle.tables.specs.Shape.{Test, Condition, Line, Table, tests}
-use Rattle.tables.specs.Applying.{passes, keep, rowsFor, asks, inOrder}
+use Rattle.tables.specs.Applying.{passes, keep, rowsFor, isCheck, inOrder}
 use Rattle.tables.specs.Tables.{Served, layouts, res0, wf, mcr, mcrr, ldc, sve, ld64b, bti, pauth, hvc, brk, fp, breakpoint, softwareStep, watchpoint, instructionAbort, dataAbort, serror, undivided}
 use Rattle.tables.proofs.Laws.{same, given, knowsLines, keep-is}
 
@@ -34,18 +34,18 @@ tiled (r ∷ rs) = tiles 25 (r ∷ rs)
 
 -- the start of each row that asks something is in the order of the checks
 abbrev pub covers : List ℕ → ℕ → Row → Bool
-covers order i r = not (asks (rowKind r)) || member (r .start) order
+covers order i r = not (isCheck (rowKind r)) || member (r .start) order
 
 -- A row's own columns. Its name, long name and kind are of their lists, so that none is misspelt. A coded row refuses by a number of 01's, and each
 -- value that its rule lists is one that it can hold. A free row's rule says something of each value that it can hold, or of none: so a
 -- rule of one bit has a row of one bit, which is what the Rust asserts in as_bit. A checked row has no text but that of 0.
-abbrev saysAll : ℕ → ℕ → Bool
-saysAll rule n = eqb (ruleAt rule .places) n && from (says rule) 0 n
+abbrev describesAll : ℕ → ℕ → Bool
+describesAll rule n = eqb (ruleAt rule .codes) n && from (describes rule) 0 n
 
 abbrev fits : Kind → ℕ → ℕ → Bool
-fits Free rule width = eqb rule 0 || saysAll rule (2 ^ width)
-fits (Coded reason) rule width = member (reasonNumber reason) (3 ∷ 4 ∷ 5 ∷ 6 ∷ 7 ∷ 17 ∷ []) && leb (ruleAt rule .places) (2 ^ width)
-fits Checked rule width = eqb rule 0 || saysAll rule 1
+fits Free rule width = eqb rule 0 || describesAll rule (2 ^ width)
+fits (Coded reason) rule width = member (reasonNumber reason) (3 ∷ 4 ∷ 5 ∷ 6 ∷ 7 ∷ 17 ∷ []) && leb (ruleAt rule .codes) (2 ^ width)
+fits Checked rule width = eqb rule 0 || describesAll rule 1
 fits Unchecked rule width = eqb rule 0
 
 abbrev soundRow : ℕ → Row → Bool
@@ -94,14 +94,14 @@ served [] c = 0
 served (s ∷ ss) c = cond (member c (s .classes)) (suc (served ss c)) (served ss c)
 
 abbrev pub classSound : ℕ → Bool
-classSound c = cond (says (className .number) c) (eqb (served layouts c) 1) (eqb (served layouts c) 0)
+classSound c = cond (describes (className .number) c) (eqb (served layouts c) 1) (eqb (served layouts c) 0)
 
 abbrev soundServed : ℕ → Served → Bool
 soundServed i s = soundTable (s .table)
 
 -- the computed test
 all-sound : T (every soundServed 0 layouts && from classSound 0 64)
-unfolding layouts res0 wf mcr mcrr ldc sve ld64b bti pauth hvc brk fp breakpoint softwareStep watchpoint instructionAbort dataAbort serror undivided names rules code placeIn says onList ruleAt kindOf
+unfolding layouts res0 wf mcr mcrr ldc sve ld64b bti pauth hvc brk fp breakpoint softwareStep watchpoint instructionAbort dataAbort serror undivided names rules code indexIn describes onList ruleAt kindOf
 all-sound = tt
 
 pub sound-table : {s : Served} → List·Memᴰ s layouts → T (soundTable (s .table))

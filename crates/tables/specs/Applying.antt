@@ -28,24 +28,24 @@ unfoldable pub rowsFor : Table → ℕ → List Row
 rowsFor t v = keep (passes v) (t .lines)
 
 -- a kind asks something if it can refuse
-abbrev pub asks : Kind → Bool
-asks Free = false
-asks (Coded reason) = true
-asks Checked = true
-asks Unchecked = false
+abbrev pub isCheck : Kind → Bool
+isCheck Free = false
+isCheck (Coded reason) = true
+isCheck Checked = true
+isCheck Unchecked = false
 
-abbrev pub asking : ℕ → Row → Bool
-asking s r = eqb (r .start) s && asks (rowKind r)
+abbrev pub isCheckAt : ℕ → Row → Bool
+isCheckAt s r = eqb (r .start) s && isCheck (rowKind r)
 
 -- the row that starts at s and asks something, if there is one
-abbrev pub askingAt : List Row → ℕ → List Row
-askingAt [] s = []
-askingAt (r ∷ rs) s = cond (asking s r) (r ∷ []) (askingAt rs s)
+abbrev pub checkAt : List Row → ℕ → List Row
+checkAt [] s = []
+checkAt (r ∷ rs) s = cond (isCheckAt s r) (r ∷ []) (checkAt rs s)
 
 -- the rows to check, in the order of these starts
 abbrev pub inOrder : List Row → List ℕ → List Row
 inOrder rows [] = []
-inOrder rows (s ∷ ss) = askingAt rows s ++ inOrder rows ss
+inOrder rows (s ∷ ss) = checkAt rows s ++ inOrder rows ss
 
 unfoldable pub checksFor : Table → ℕ → List Row
 checksFor t v = inOrder (rowsFor t v) (t .order)

@@ -6,5 +6,5 @@ use Rattle.texts.specs.Promises.{Pool, Starts}
 pub pool-bytes-decides : Decides Pool
 pool-bytes-decides i a b = same
 
-pub starting-places-decides : Decides Starts
-starting-places-decides i a b = same
+pub text-starts-decides : Decides Starts
+text-starts-decides i a b = same

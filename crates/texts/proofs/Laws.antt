@@ -16,7 +16,7 @@ use borrow.Author.Tests.{ltb-true, ltb-false, eqb-true}
 use Rattle.promise.proofs.Tests.{both-left, both-right, every, every-at}
 use Rattle.texts.specs.Names.{names}
 use Rattle.texts.specs.Rules.{Text, Rule, plain, rules, faultStatus, className}
-use Rattle.texts.specs.Pool.{textIn, onList, ruleAt, sayingOf, says, byValue, said, placesOf, nameRoom, texts, textAt, firstOf, textCode, bytes, bytesAt, flat, startsFrom, pool, starts, lengthIn, byteIn}
+use Rattle.texts.specs.Pool.{textIn, onList, ruleAt, descriptionOf, describes, byValue, described, codesOf, nameRoom, texts, textAt, firstOf, textCode, bytes, bytesAt, flat, startsFrom, pool, starts, lengthIn}
 
 -- Texts end to end.
 
@@ -41,7 +41,7 @@ read-from p [] (suc k) = refl
 read-from p (s ∷ ss) zero = rw (drop-append-seam p (bytes s ++ flat ss)) (take-append-seam (bytes s) (flat ss))
 read-from p (s ∷ ss) (suc k) = rw (← append-assoc p (bytes s) (flat ss), ← length-append p (bytes s)) (read-from (p ++ bytes s) ss k)
 
--- the length of a text, by the starting places
+-- the length of a text, by the starts
 pub length-at : (code : ℕ) → lengthIn starts code ≡ length (bytesAt code)
 unfolding lengthIn starts bytesAt textAt
 length-at code = rw add-one (length-from 0 texts code)
@@ -51,30 +51,14 @@ pub read-back : (code : ℕ) → take (lengthIn starts code) (drop (getD starts 
 unfolding starts pool bytesAt textAt
 read-back code = rw (length-at code) (read-from [] texts code)
 
--- and so is every byte of it
-pub byte-at : (code i : ℕ) → byteIn pool starts code i ≡ getD (bytesAt code) i 0
-unfolding byteIn
-byte-at code i = by-test (ltb i (lengthIn starts code)) refl
-  where
-    by-test : (b : Bool) → ltb i (lengthIn starts code) ≡ b → cond b (getD pool (getD starts code 0 + i) 0) 0 ≡ getD (bytesAt code) i 0
-    by-test true e =
-        let h : i < lengthIn starts code = ltb-true i (lengthIn starts code) e in
-        sym (getD-drop (getD starts code 0) pool i 0)
-        ∙ sym (getD-take (lengthIn starts code) (drop (getD starts code 0) pool) i 0 h)
-        ∙ ap (λ l. getD l i 0) (read-back code)
-    by-test false e =
-        let h : lengthIn starts code ≤ i = ltb-false i (lengthIn starts code) e in
-        let l : lengthIn starts code ≡ length (bytesAt code) = length-at code in
-        sym (List·getD-eq-default (bytesAt code) 0 (omega arith))
-
--- The pool's table: places that never decrease and end at the pool's length.
+-- The pool's table: starts that never decrease and end at the pool's length.
 
 abbrev risesTo : ℕ → ℕ → List ℕ → Bool
 risesTo end x [] = eqb x end
 risesTo end x (y ∷ ys) = leb x y && risesTo end y ys
 
 rises : T (risesTo (length pool) 0 starts)
-unfolding pool starts startsFrom flat bytes texts said byValue textIn names rules
+unfolding pool starts startsFrom flat bytes texts described byValue textIn names rules
 rises = tt
 
 rise-at : (end x : ℕ) (ys : List ℕ) → T (risesTo end x ys) → (k : ℕ) → k < length ys → getD (x ∷ ys) k 0 ≤ getD ys k 0
@@ -87,11 +71,11 @@ end-at end x [] t = eqb→eq x end t
 end-at end x (y ∷ ys) t = end-at end y ys (both-right (leb x y) (risesTo end y ys) t)
 
 -- no place is before the one before it, and the last is the pool's length
-pub places-rise : (k : ℕ) → suc k < length starts → getD starts k 0 ≤ getD starts (suc k) 0
-places-rise k h = rise-at (length pool) 0 starts rises (suc k) h
+pub starts-rise : (k : ℕ) → suc k < length starts → getD starts k 0 ≤ getD starts (suc k) 0
+starts-rise k h = rise-at (length pool) 0 starts rises (suc k) h
 
-pub places-end : getD (0 ∷ starts) (length starts) 0 ≡ length pool
-places-end = end-at (length pool) 0 starts rises
+pub starts-end : getD (0 ∷ starts) (length starts) 0 ≡ length pool
+starts-end = end-at (length pool) 0 starts rises
 
 -- Names and rules: what their lists could get wrong unseen.
 
@@ -114,12 +98,12 @@ names-fit = tt
 
 -- texts by rising value, each value with a place, no text empty
 abbrev rising : ℕ → ℕ → List Text → Bool
-rising low places [] = true
-rising low places (t ∷ ts) = leb low (t .value) && (ltb (t .value) places && (not (eqt (t .text) "") && rising (suc (t .value)) places ts))
+rising low codes [] = true
+rising low codes (t ∷ ts) = leb low (t .value) && (ltb (t .value) codes && (not (eqt (t .text) "") && rising (suc (t .value)) codes ts))
 
 -- a rule's number is its place; its values rise and have places; a place is a bit of 64
 abbrev soundRule : ℕ → Rule → Bool
-soundRule n r = eqb (r .number) n && (leb (r .places) 64 && rising 0 (r .places) (r .texts))
+soundRule n r = eqb (r .number) n && (leb (r .codes) 64 && rising 0 (r .codes) (r .texts))
 
 pub rules-sound : T (every soundRule 0 rules)
 unfolding rules
@@ -134,20 +118,28 @@ abbrev short : ℕ → String → Bool
 short n s = leb (length (bytes s)) 255
 
 pub texts-short : T (every short 0 texts)
-unfolding bytes texts said byValue textIn names rules
+unfolding bytes texts described byValue textIn names rules
 texts-short = tt
+
+pub text-short : (code : ℕ) → length (bytesAt code) ≤ 255
+unfolding bytesAt textAt bytes
+text-short code = by-test (ltb code (length texts)) refl
+  where
+    by-test : (b : Bool) → ltb code (length texts) ≡ b → length (bytes (getD texts code "")) ≤ 255
+    by-test true e = leb→le (length (bytes (getD texts code ""))) 255 (every-at short texts "" texts-short code (ltb-true code (length texts) e))
+    by-test false e = rw (List·getD-eq-default texts "" (ltb-false code (length texts) e)) (omega arith)
 
 -- What a rule says of a value stands at its code.
 
-below : (low places v : ℕ) (ts : List Text) → T (rising low places ts) → T (onList ts v) → v < places
+below : (low codes v : ℕ) (ts : List Text) → T (rising low codes ts) → T (onList ts v) → v < codes
 unfolding onList
-below low places v [] t e = absurd e
-below low places v (x ∷ xs) t e =
-    let fits : T (ltb (x .value) places && (not (eqt (x .text) "") && rising (suc (x .value)) places xs)) = both-right (leb low (x .value)) _ t in
-    by-test (eqb v (x .value)) refl (ltb→lt (x .value) places (both-left (ltb (x .value) places) _ fits)) e
-    (below (suc (x .value)) places v xs (both-right (not (eqt (x .text) "")) _ (both-right (ltb (x .value) places) _ fits)))
+below low codes v [] t e = absurd e
+below low codes v (x ∷ xs) t e =
+    let fits : T (ltb (x .value) codes && (not (eqt (x .text) "") && rising (suc (x .value)) codes xs)) = both-right (leb low (x .value)) _ t in
+    by-test (eqb v (x .value)) refl (ltb→lt (x .value) codes (both-left (ltb (x .value) codes) _ fits)) e
+    (below (suc (x .value)) codes v xs (both-right (not (eqt (x .text) "")) _ (both-right (ltb (x .value) codes) _ fits)))
   where
-    by-test : (b : Bool) → eqb v (x .value) ≡ b → x .value < places → T (cond b true (onList xs v)) → (T (onList xs v) → v < places) → v < places
+    by-test : (b : Bool) → eqb v (x .value) ≡ b → x .value < codes → T (cond b true (onList xs v)) → (T (onList xs v) → v < codes) → v < codes
     by-test true q l u rest = omega (arith, eqb-true v (x .value) q)
     by-test false q l u rest = rest u
 
@@ -162,40 +154,40 @@ byValue-at ts v zero k h = absurd (not-suc-le-zero h)
 byValue-at ts v (suc n) zero h = sym (ap (textIn ts) (add-zero v))
 byValue-at ts v (suc n) (suc k) h = byValue-at ts (suc v) n k (le-of-suc-le-suc h) ∙ ap (textIn ts) (suc-add v k ∙ sym (add-suc v k))
 
-said-at : (rs : List Rule) (n v : ℕ) → n < length rs → v < getD rs n plain .places
-    → getD (said rs) (placesOf (take n rs) + v) "" ≡ textIn (getD rs n plain .texts) v
-unfolding said placesOf
-said-at [] n v l h = absurd (not-suc-le-zero l)
-said-at (r ∷ rs) zero v l h =
-    let own : List String = byValue (r .texts) 0 (r .places) in
-    let long : length own ≡ r .places = length-byValue (r .texts) 0 (r .places) in
-    ap (λ k. getD (own ++ said rs) k "") (zero-add v)
-    ∙ List·getD-append own (said rs) "" v (omega arith)
-    ∙ byValue-at (r .texts) 0 (r .places) v h
+described-at : (rs : List Rule) (n v : ℕ) → n < length rs → v < getD rs n plain .codes
+    → getD (described rs) (codesOf (take n rs) + v) "" ≡ textIn (getD rs n plain .texts) v
+unfolding described codesOf
+described-at [] n v l h = absurd (not-suc-le-zero l)
+described-at (r ∷ rs) zero v l h =
+    let own : List String = byValue (r .texts) 0 (r .codes) in
+    let long : length own ≡ r .codes = length-byValue (r .texts) 0 (r .codes) in
+    ap (λ k. getD (own ++ described rs) k "") (zero-add v)
+    ∙ List·getD-append own (described rs) "" v (omega arith)
+    ∙ byValue-at (r .texts) 0 (r .codes) v h
     ∙ ap (textIn (r .texts)) (zero-add v)
-said-at (r ∷ rs) (suc n) v l h =
-    let own : List String = byValue (r .texts) 0 (r .places) in
-    let long : length own ≡ r .places = length-byValue (r .texts) 0 (r .places) in
-    let past : r .places + placesOf (take n rs) + v ≡ length own + (placesOf (take n rs) + v) = omega arith in
-    ap (λ k. getD (own ++ said rs) k "") past
-    ∙ getD-append-add own (said rs) (placesOf (take n rs) + v) ""
-    ∙ said-at rs n v (le-of-suc-le-suc l) h
+described-at (r ∷ rs) (suc n) v l h =
+    let own : List String = byValue (r .texts) 0 (r .codes) in
+    let long : length own ≡ r .codes = length-byValue (r .texts) 0 (r .codes) in
+    let past : r .codes + codesOf (take n rs) + v ≡ length own + (codesOf (take n rs) + v) = omega arith in
+    ap (λ k. getD (own ++ described rs) k "") past
+    ∙ getD-append-add own (described rs) (codesOf (take n rs) + v) ""
+    ∙ described-at rs n v (le-of-suc-le-suc l) h
 
--- the codes of texts start behind the names' room
-text-past-room : (k : ℕ) → textAt (nameRoom + k) ≡ getD (said rules) k ""
+-- the codes of texts start after the names' room
+text-past-room : (k : ℕ) → textAt (nameRoom + k) ≡ getD (described rules) k ""
 unfolding textAt texts
 text-past-room k =
     let front : List String = names ++ replicate (nameRoom - length names) "" in
     let fit : length names ≤ nameRoom = leb→le (length names) nameRoom names-fit in
     let long : length front ≡ nameRoom =
     omega (arith, length-append names (replicate (nameRoom - length names) ""), length-replicate {A = String} (nameRoom - length names) "") in
-    ap (λ l. getD l (nameRoom + k) "") (sym (append-assoc names (replicate (nameRoom - length names) "") (said rules)))
-    ∙ ap (λ n. getD (front ++ said rules) (n + k) "") (sym long)
-    ∙ getD-append-add front (said rules) k ""
+    ap (λ l. getD l (nameRoom + k) "") (sym (append-assoc names (replicate (nameRoom - length names) "") (described rules)))
+    ∙ ap (λ n. getD (front ++ described rules) (n + k) "") (sym long)
+    ∙ getD-append-add front (described rules) k ""
 
 -- a rule that says something is one of the list, and the value has a place
-some-rule : (n v : ℕ) → T (says n v) → n < length rules
-unfolding says onList ruleAt
+some-rule : (n v : ℕ) → T (describes n v) → n < length rules
+unfolding describes onList ruleAt
 some-rule n v t = by-test (ltb n (length rules)) refl
   where
     by-test : (b : Bool) → ltb n (length rules) ≡ b → n < length rules
@@ -208,23 +200,23 @@ unfolding ruleAt
 sound-at n h = every-at soundRule rules plain rules-sound n h
 
 -- no rule has more than 64 places
-pub places-small : (n : ℕ) → ruleAt n .places ≤ 64
+pub codes-small : (n : ℕ) → ruleAt n .codes ≤ 64
 unfolding ruleAt
-places-small n = by-test (ltb n (length rules)) refl
+codes-small n = by-test (ltb n (length rules)) refl
   where
-    by-test : (b : Bool) → ltb n (length rules) ≡ b → getD rules n plain .places ≤ 64
+    by-test : (b : Bool) → ltb n (length rules) ≡ b → getD rules n plain .codes ≤ 64
     by-test true e =
         let r : Rule = getD rules n plain in
         let s : T (soundRule n r) = every-at soundRule rules plain rules-sound n (ltb-true n (length rules) e) in
-        leb→le (r .places) 64 (both-left (leb (r .places) 64) _ (both-right (eqb (r .number) n) _ s))
+        leb→le (r .codes) 64 (both-left (leb (r .codes) 64) _ (both-right (eqb (r .number) n) _ s))
     by-test false e = rw (List·getD-eq-default rules plain (ltb-false n (length rules) e)) (omega arith)
 
-pub says-below : (n v : ℕ) → T (says n v) → v < ruleAt n .places
-unfolding says
-says-below n v t =
+pub describes-below : (n v : ℕ) → T (describes n v) → v < ruleAt n .codes
+unfolding describes
+describes-below n v t =
     let r : Rule = ruleAt n in
-    let s : T (leb (r .places) 64 && rising 0 (r .places) (r .texts)) = both-right (eqb (r .number) n) _ (sound-at n (some-rule n v t)) in
-    below 0 (r .places) v (r .texts) (both-right (leb (r .places) 64) _ s) t
+    let s : T (leb (r .codes) 64 && rising 0 (r .codes) (r .texts)) = both-right (eqb (r .number) n) _ (sound-at n (some-rule n v t)) in
+    below 0 (r .codes) v (r .texts) (both-right (leb (r .codes) 64) _ s) t
 
 silent : (ts : List Text) (v : ℕ) → onList ts v ≡ false → textIn ts v ≡ ""
 unfolding onList textIn
@@ -236,27 +228,27 @@ silent (x ∷ xs) v e = by-test (eqb v (x .value)) e (silent xs v)
     by-test false u rest = rest u
 
 -- the text at the code of what a rule says of a value is what it says; code 0, the empty text, where it says nothing
-pub text-said : (rule value : ℕ) → textAt (textCode rule value) ≡ sayingOf rule value
-unfolding textCode firstOf sayingOf ruleAt says textAt texts names
-text-said rule value = by-test (says rule value) refl
+pub text-described : (rule value : ℕ) → textAt (textCode rule value) ≡ descriptionOf rule value
+unfolding textCode firstOf descriptionOf ruleAt describes textAt texts names
+text-described rule value = by-test (describes rule value) refl
   where
-    by-test : (b : Bool) → says rule value ≡ b → textAt (cond b (firstOf rule + value) 0) ≡ sayingOf rule value
+    by-test : (b : Bool) → describes rule value ≡ b → textAt (cond b (firstOf rule + value) 0) ≡ descriptionOf rule value
     by-test true e =
-        let t : T (says rule value) = subst T (sym e) tt in
-        ap textAt (add-assoc nameRoom (placesOf (take rule rules)) value)
-        ∙ text-past-room (placesOf (take rule rules) + value)
-        ∙ said-at rules rule value (some-rule rule value t) (says-below rule value t)
+        let t : T (describes rule value) = subst T (sym e) tt in
+        ap textAt (add-assoc nameRoom (codesOf (take rule rules)) value)
+        ∙ text-past-room (codesOf (take rule rules) + value)
+        ∙ described-at rules rule value (some-rule rule value t) (describes-below rule value t)
     by-test false e = sym (silent (ruleAt rule .texts) value e)
 
 -- Lent places of any length: a text that is not empty has its place, and the next, among them.
 
-pub past-places : (l : List ℕ) (k : ℕ) → length l ≤ k + 1 → lengthIn l k ≡ 0
+pub past-starts : (l : List ℕ) (k : ℕ) → length l ≤ k + 1 → lengthIn l k ≡ 0
 unfolding lengthIn
-past-places l k h = omega (arith, List·getD-eq-default l 0 h)
+past-starts l k h = omega (arith, List·getD-eq-default l 0 h)
 
-pub in-places : (l : List ℕ) (k i : ℕ) → i < lengthIn l k → k < length l
-in-places l k i h = by-test (ltb k (length l)) refl
+pub in-starts : (l : List ℕ) (k i : ℕ) → i < lengthIn l k → k < length l
+in-starts l k i h = by-test (ltb k (length l)) refl
   where
     by-test : (b : Bool) → ltb k (length l) ≡ b → k < length l
     by-test true e = ltb-true k (length l) e
-    by-test false e = absurd (omega (arith, past-places l k (omega (arith, ltb-false k (length l) e))))
+    by-test false e = absurd (omega (arith, past-starts l k (omega (arith, ltb-false k (length l) e))))

@@ -26,11 +26,11 @@ unfoldable pub ruleAt : ℕ → Rule
 ruleAt n = getD rules n plain
 
 -- what a rule says of a value, and whether it says anything
-unfoldable pub sayingOf : ℕ → ℕ → String
-sayingOf rule value = textIn (ruleAt rule .texts) value
+unfoldable pub descriptionOf : ℕ → ℕ → String
+descriptionOf rule value = textIn (ruleAt rule .texts) value
 
-unfoldable pub says : ℕ → ℕ → Bool
-says rule value = onList (ruleAt rule .texts) value
+unfoldable pub describes : ℕ → ℕ → Bool
+describes rule value = onList (ruleAt rule .texts) value
 
 -- the texts of n values from v on
 unfoldable pub byValue : List Text → ℕ → ℕ → List String
@@ -38,9 +38,9 @@ byValue ts v zero = []
 byValue ts v (suc n) = textIn ts v ∷ byValue ts (suc v) n
 
 -- the texts of rules, one rule after the other, each by value
-unfoldable pub said : List Rule → List String
-said [] = []
-said (r ∷ rs) = byValue (r .texts) 0 (r .places) ++ said rs
+unfoldable pub described : List Rule → List String
+described [] = []
+described (r ∷ rs) = byValue (r .texts) 0 (r .codes) ++ described rs
 
 -- names have the codes below 128, so that a name added later moves no code of a text
 abbrev pub nameRoom : ℕ
@@ -48,29 +48,29 @@ nameRoom = 128
 
 -- all texts, by code; code 0 is no name and no text
 unfoldable pub texts : List String
-texts = names ++ (replicate (nameRoom - length names) "" ++ said rules)
+texts = names ++ (replicate (nameRoom - length names) "" ++ described rules)
 
 unfoldable pub textAt : ℕ → String
 textAt code = getD texts code ""
 
 -- the code of a name: its place among the names
-unfoldable pub placeIn : ℕ → List String → String → ℕ
-placeIn n [] s = n
-placeIn n (t ∷ ts) s = cond (eqt s t) n (placeIn (suc n) ts s)
+unfoldable pub indexIn : ℕ → List String → String → ℕ
+indexIn n [] s = n
+indexIn n (t ∷ ts) s = cond (eqt s t) n (indexIn (suc n) ts s)
 
 unfoldable pub code : String → ℕ
-code s = placeIn 0 names s
+code s = indexIn 0 names s
 
 -- the code of what a rule says of a value: the rule's first code plus the value; 0 where it says nothing
-unfoldable pub placesOf : List Rule → ℕ
-placesOf [] = 0
-placesOf (r ∷ rs) = r .places + placesOf rs
+unfoldable pub codesOf : List Rule → ℕ
+codesOf [] = 0
+codesOf (r ∷ rs) = r .codes + codesOf rs
 
 unfoldable pub firstOf : ℕ → ℕ
-firstOf rule = nameRoom + placesOf (take rule rules)
+firstOf rule = nameRoom + codesOf (take rule rules)
 
 unfoldable pub textCode : ℕ → ℕ → ℕ
-textCode rule value = cond (says rule value) (firstOf rule + value) 0
+textCode rule value = cond (describes rule value) (firstOf rule + value) 0
 
 -- the bytes of a text, of a text by its code, and of texts end to end
 unfoldable pub bytes : String → List ℕ
@@ -95,10 +95,6 @@ pool = flat texts
 unfoldable pub starts : List ℕ
 starts = startsFrom 0 texts
 
--- the length of a text by lent starting places; 0 past the last, and where the next place is not behind
+-- the length of a text by starts that are lent; 0 past the last, and where the next start is not after
 unfoldable pub lengthIn : List ℕ → ℕ → ℕ
-lengthIn places code = getD places (code + 1) 0 - getD places code 0
-
--- byte i of a text in a lent pool by lent starting places; 0 past the text's end and past the pool's
-unfoldable pub byteIn : List ℕ → List ℕ → ℕ → ℕ → ℕ
-byteIn lent places code i = cond (ltb i (lengthIn places code)) (getD lent (getD places code 0 + i) 0) 0
+lengthIn starting code = getD starting (code + 1) 0 - getD starting code 0

@@ -4,7 +4,7 @@ use mathlib.Core.List.{List}
 use mathlib.Core.Path.{_≡_}
 use Rattle.texts.specs.Pool.{pool, starts}
 
--- the pool and the starting places
+-- the pool and the starts
 abbrev pub Pool : Unit {0} → List ℕ → Type 0
 Pool i r = r ≡ pool
 

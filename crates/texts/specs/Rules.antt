@@ -8,22 +8,22 @@ pub record Text : Type 0 where
   pub value : ℕ
   pub text : String
 
-infix 70 _says_
-abbrev pub _says_ : ℕ → String → Text
-v says s = record { value = v; text = s }
+infix 70 _means_
+abbrev pub _means_ : ℕ → String → Text
+v means s = record { value = v; text = s }
 
 -- A rule's number, by which a row names it; how many values, from 0 on, have a place in the pool; its texts by rising value.
 pub record Rule : Type 0 where
   pub number : ℕ
-  pub places : ℕ
+  pub codes : ℕ
   pub texts : List Text
 
 abbrev pub rule : ℕ → ℕ → List Text → Rule
-rule n p ts = record { number = n; places = p; texts = ts }
+rule n p ts = record { number = n; codes = p; texts = ts }
 
 -- a rule of one bit: the texts of 1, then of 0, as 01 gives them
 abbrev pub bitRule : ℕ → String → String → Rule
-bitRule n one zero = rule n 2 (0 says zero ∷ 1 says one ∷ [])
+bitRule n one zero = rule n 2 (0 means zero ∷ 1 means one ∷ [])
 
 -- a field without text
 abbrev pub plain : Rule
@@ -193,209 +193,209 @@ wnrv = bitRule 31 "WnR is valid" "WnR is not valid and has been set to 0"
 abbrev pub issRes0 : Rule
 issRes0 =
     rule 32 1 (
-    0 says "ISS is RES0" ∷
+    0 means "ISS is RES0" ∷
     [])
 
 -- EC (mod.rs, decode): the class text. 35 classes of 64
 abbrev pub className : Rule
 className =
     rule 33 64 (
-    0x00 says "Unknown reason" ∷
-    0x01 says "Wrapped WF* instruction execution" ∷
-    0x03 says "Trapped MCR or MRC access with coproc=0b1111" ∷
-    0x04 says "Trapped MCRR or MRRC access with coproc=0b1111" ∷
-    0x05 says "Trapped MCR or MRC access with coproc=0b1110" ∷
-    0x06 says "Trapped LDC or STC access" ∷
-    0x07 says "Trapped access to SVE, Advanced SIMD or floating point" ∷
-    0x0A says "Trapped execution of an LD64B, ST64B, ST64BV, or ST64BV0 instruction" ∷
-    0x0C says "Trapped MRRC access with (coproc==0b1110)" ∷
-    0x0D says "Branch Target Exception" ∷
-    0x0E says "Illegal Execution state" ∷
-    0x11 says "SVC instruction execution in AArch32 state" ∷
-    0x15 says "SVC instruction execution in AArch64 state" ∷
-    0x16 says "HVC instruction execution in AArch64 state" ∷
-    0x17 says "SMC instruction execution in AArch64 state" ∷
-    0x18 says "Trapped MSR, MRS or System instruction execution in AArch64 state" ∷
-    0x19 says "Access to SVE functionality trapped as a result of CPACR_EL1.ZEN, CPTR_EL2.ZEN, CPTR_EL2.TZ, or CPTR_EL3.EZ" ∷
-    0x1C says "Exception from a Pointer Authentication instruction authentication failure" ∷
-    0x20 says "Instruction Abort from a lower Exception level" ∷
-    0x21 says "Instruction Abort taken without a change in Exception level" ∷
-    0x22 says "PC alignment fault exception" ∷
-    0x24 says "Data Abort from a lower Exception level" ∷
-    0x25 says "Data Abort taken without a change in Exception level" ∷
-    0x26 says "SP alignment fault exception" ∷
-    0x28 says "Trapped floating-point exception taken from AArch32 state" ∷
-    0x2C says "Trapped floating-point exception taken from AArch64 state" ∷
-    0x2F says "SError interrupt" ∷
-    0x30 says "Breakpoint exception from a lower Exception level" ∷
-    0x31 says "Breakpoint exception taken without a change in Exception level" ∷
-    0x32 says "Software Step exception from a lower Exception level" ∷
-    0x33 says "Software Step exception taken without a change in Exception level" ∷
-    0x34 says "Watchpoint exception from a lower Exception level" ∷
-    0x35 says "Watchpoint exception taken without a change in Exception level" ∷
-    0x38 says "BKPT instruction execution in AArch32 state" ∷
-    0x3C says "BRK instruction execution in AArch64 state" ∷
+    0x00 means "Unknown reason" ∷
+    0x01 means "Wrapped WF* instruction execution" ∷
+    0x03 means "Trapped MCR or MRC access with coproc=0b1111" ∷
+    0x04 means "Trapped MCRR or MRRC access with coproc=0b1111" ∷
+    0x05 means "Trapped MCR or MRC access with coproc=0b1110" ∷
+    0x06 means "Trapped LDC or STC access" ∷
+    0x07 means "Trapped access to SVE, Advanced SIMD or floating point" ∷
+    0x0A means "Trapped execution of an LD64B, ST64B, ST64BV, or ST64BV0 instruction" ∷
+    0x0C means "Trapped MRRC access with (coproc==0b1110)" ∷
+    0x0D means "Branch Target Exception" ∷
+    0x0E means "Illegal Execution state" ∷
+    0x11 means "SVC instruction execution in AArch32 state" ∷
+    0x15 means "SVC instruction execution in AArch64 state" ∷
+    0x16 means "HVC instruction execution in AArch64 state" ∷
+    0x17 means "SMC instruction execution in AArch64 state" ∷
+    0x18 means "Trapped MSR, MRS or System instruction execution in AArch64 state" ∷
+    0x19 means "Access to SVE functionality trapped as a result of CPACR_EL1.ZEN, CPTR_EL2.ZEN, CPTR_EL2.TZ, or CPTR_EL3.EZ" ∷
+    0x1C means "Exception from a Pointer Authentication instruction authentication failure" ∷
+    0x20 means "Instruction Abort from a lower Exception level" ∷
+    0x21 means "Instruction Abort taken without a change in Exception level" ∷
+    0x22 means "PC alignment fault exception" ∷
+    0x24 means "Data Abort from a lower Exception level" ∷
+    0x25 means "Data Abort taken without a change in Exception level" ∷
+    0x26 means "SP alignment fault exception" ∷
+    0x28 means "Trapped floating-point exception taken from AArch32 state" ∷
+    0x2C means "Trapped floating-point exception taken from AArch64 state" ∷
+    0x2F means "SError interrupt" ∷
+    0x30 means "Breakpoint exception from a lower Exception level" ∷
+    0x31 means "Breakpoint exception taken without a change in Exception level" ∷
+    0x32 means "Software Step exception from a lower Exception level" ∷
+    0x33 means "Software Step exception taken without a change in Exception level" ∷
+    0x34 means "Watchpoint exception from a lower Exception level" ∷
+    0x35 means "Watchpoint exception taken without a change in Exception level" ∷
+    0x38 means "BKPT instruction execution in AArch32 state" ∷
+    0x3C means "BRK instruction execution in AArch64 state" ∷
     [])
 
 -- TI (wf.rs, describe_ti)
 abbrev pub ti : Rule
 ti =
     rule 34 4 (
-    0 says "WFI trapped" ∷
-    1 says "WFE trapped" ∷
-    2 says "WFIT trapped" ∷
-    3 says "WFET trapped" ∷
+    0 means "WFI trapped" ∷
+    1 means "WFE trapped" ∷
+    2 means "WFIT trapped" ∷
+    3 means "WFET trapped" ∷
     [])
 
 -- AM (ldc.rs, describe_am); 5 and 7 are not on the list
 abbrev pub am : Rule
 am =
     rule 35 8 (
-    0 says "Immediate unindexed" ∷
-    1 says "Immediate post-indexed" ∷
-    2 says "Immediate offset" ∷
-    3 says "Immediate pre-indexed" ∷
-    4 says "Reserved for trapped STR or T32 LDC" ∷
-    6 says "Reserved for trapped STC" ∷
+    0 means "Immediate unindexed" ∷
+    1 means "Immediate post-indexed" ∷
+    2 means "Immediate offset" ∷
+    3 means "Immediate pre-indexed" ∷
+    4 means "Reserved for trapped STR or T32 LDC" ∷
+    6 means "Reserved for trapped STC" ∷
     [])
 
 -- ISS of 0x0A (ld64b.rs, describe_iss_ld64b)
 abbrev pub ld64bIss : Rule
 ld64bIss =
     rule 36 3 (
-    0 says "ST64BV trapped" ∷
-    1 says "ST64BV0 trapped" ∷
-    2 says "LD64B or ST64B trapped" ∷
+    0 means "ST64BV trapped" ∷
+    1 means "ST64BV0 trapped" ∷
+    2 means "LD64B or ST64B trapped" ∷
     [])
 
 -- the status of the debug layouts (breakpoint.rs, describe_fsc)
 abbrev pub debugStatus : Rule
 debugStatus =
     rule 37 64 (
-    0x22 says "Debug exception" ∷
+    0x22 means "Debug exception" ∷
     [])
 
 -- the status of aborts: 01's list of 42, its words with the first letter large and ", level N" where there is a level
 abbrev pub faultStatus : Rule
 faultStatus =
     rule 38 64 (
-    0x00 says "Address size fault, level 0" ∷
-    0x01 says "Address size fault, level 1" ∷
-    0x02 says "Address size fault, level 2" ∷
-    0x03 says "Address size fault, level 3" ∷
-    0x04 says "Translation fault, level 0" ∷
-    0x05 says "Translation fault, level 1" ∷
-    0x06 says "Translation fault, level 2" ∷
-    0x07 says "Translation fault, level 3" ∷
-    0x08 says "Access flag fault, level 0" ∷
-    0x09 says "Access flag fault, level 1" ∷
-    0x0A says "Access flag fault, level 2" ∷
-    0x0B says "Access flag fault, level 3" ∷
-    0x0C says "Permission fault, level 0" ∷
-    0x0D says "Permission fault, level 1" ∷
-    0x0E says "Permission fault, level 2" ∷
-    0x0F says "Permission fault, level 3" ∷
-    0x10 says "External abort" ∷
-    0x11 says "Tag check fault" ∷
-    0x13 says "External abort on table walk, level -1" ∷
-    0x14 says "External abort on table walk, level 0" ∷
-    0x15 says "External abort on table walk, level 1" ∷
-    0x16 says "External abort on table walk, level 2" ∷
-    0x17 says "External abort on table walk, level 3" ∷
-    0x18 says "Parity or ECC error" ∷
-    0x1B says "Parity or ECC error on table walk, level -1" ∷
-    0x1C says "Parity or ECC error on table walk, level 0" ∷
-    0x1D says "Parity or ECC error on table walk, level 1" ∷
-    0x1E says "Parity or ECC error on table walk, level 2" ∷
-    0x1F says "Parity or ECC error on table walk, level 3" ∷
-    0x21 says "Alignment fault" ∷
-    0x23 says "Granule protection fault on table walk, level -1" ∷
-    0x24 says "Granule protection fault on table walk, level 0" ∷
-    0x25 says "Granule protection fault on table walk, level 1" ∷
-    0x26 says "Granule protection fault on table walk, level 2" ∷
-    0x27 says "Granule protection fault on table walk, level 3" ∷
-    0x28 says "Granule protection fault" ∷
-    0x29 says "Address size fault, level -1" ∷
-    0x2B says "Translation fault, level -1" ∷
-    0x30 says "TLB conflict abort" ∷
-    0x31 says "Unsupported atomic hardware update" ∷
-    0x34 says "Lockdown" ∷
-    0x35 says "Unsupported exclusive or atomic access" ∷
+    0x00 means "Address size fault, level 0" ∷
+    0x01 means "Address size fault, level 1" ∷
+    0x02 means "Address size fault, level 2" ∷
+    0x03 means "Address size fault, level 3" ∷
+    0x04 means "Translation fault, level 0" ∷
+    0x05 means "Translation fault, level 1" ∷
+    0x06 means "Translation fault, level 2" ∷
+    0x07 means "Translation fault, level 3" ∷
+    0x08 means "Access flag fault, level 0" ∷
+    0x09 means "Access flag fault, level 1" ∷
+    0x0A means "Access flag fault, level 2" ∷
+    0x0B means "Access flag fault, level 3" ∷
+    0x0C means "Permission fault, level 0" ∷
+    0x0D means "Permission fault, level 1" ∷
+    0x0E means "Permission fault, level 2" ∷
+    0x0F means "Permission fault, level 3" ∷
+    0x10 means "External abort" ∷
+    0x11 means "Tag check fault" ∷
+    0x13 means "External abort on table walk, level -1" ∷
+    0x14 means "External abort on table walk, level 0" ∷
+    0x15 means "External abort on table walk, level 1" ∷
+    0x16 means "External abort on table walk, level 2" ∷
+    0x17 means "External abort on table walk, level 3" ∷
+    0x18 means "Parity or ECC error" ∷
+    0x1B means "Parity or ECC error on table walk, level -1" ∷
+    0x1C means "Parity or ECC error on table walk, level 0" ∷
+    0x1D means "Parity or ECC error on table walk, level 1" ∷
+    0x1E means "Parity or ECC error on table walk, level 2" ∷
+    0x1F means "Parity or ECC error on table walk, level 3" ∷
+    0x21 means "Alignment fault" ∷
+    0x23 means "Granule protection fault on table walk, level -1" ∷
+    0x24 means "Granule protection fault on table walk, level 0" ∷
+    0x25 means "Granule protection fault on table walk, level 1" ∷
+    0x26 means "Granule protection fault on table walk, level 2" ∷
+    0x27 means "Granule protection fault on table walk, level 3" ∷
+    0x28 means "Granule protection fault" ∷
+    0x29 means "Address size fault, level -1" ∷
+    0x2B means "Translation fault, level -1" ∷
+    0x30 means "TLB conflict abort" ∷
+    0x31 means "Unsupported atomic hardware update" ∷
+    0x34 means "Lockdown" ∷
+    0x35 means "Unsupported exclusive or atomic access" ∷
     [])
 
 -- SET (abort.rs, describe_set); 1 is not on the list
 abbrev pub setType : Rule
 setType =
     rule 39 4 (
-    0 says "Recoverable state (UER)" ∷
-    2 says "Uncontainable (UC)" ∷
-    3 says "Restartable state (UEO)" ∷
+    0 means "Recoverable state (UER)" ∷
+    2 means "Uncontainable (UC)" ∷
+    3 means "Restartable state (UEO)" ∷
     [])
 
 -- SAS (abort.rs, SyndromeAccessSize)
 abbrev pub sas : Rule
 sas =
     rule 40 4 (
-    0 says "byte" ∷
-    1 says "halfword" ∷
-    2 says "word" ∷
-    3 says "doubleword" ∷
+    0 means "byte" ∷
+    1 means "halfword" ∷
+    2 means "word" ∷
+    3 means "doubleword" ∷
     [])
 
 -- WU (abort.rs, describe_wu)
 abbrev pub wu : Rule
 wu =
     rule 41 4 (
-    0 says "Not a store instruction or translation table update, or the location might have been updated" ∷
-    1 says "Reserved" ∷
-    2 says "Store instruction or translation table update that did not update the location" ∷
-    3 says "Store instruction or translation table update that updated the location" ∷
+    0 means "Not a store instruction or translation table update, or the location might have been updated" ∷
+    1 means "Reserved" ∷
+    2 means "Store instruction or translation table update that did not update the location" ∷
+    3 means "Store instruction or translation table update that updated the location" ∷
     [])
 
 -- AET (serror.rs, describe_aet); 4, 5 and 7 are not on the list
 abbrev pub aet : Rule
 aet =
     rule 42 8 (
-    0 says "Uncontainable (UC)" ∷
-    1 says "Unrecoverable state (UEU)" ∷
-    2 says "Restartable state (UEO)" ∷
-    3 says "Recoverable state (UER)" ∷
-    6 says "Corrected (CE)" ∷
+    0 means "Uncontainable (UC)" ∷
+    1 means "Unrecoverable state (UEU)" ∷
+    2 means "Restartable state (UEO)" ∷
+    3 means "Recoverable state (UER)" ∷
+    6 means "Corrected (CE)" ∷
     [])
 
 -- the status of SError (serror.rs, describe_dfsc)
 abbrev pub serrorStatus : Rule
 serrorStatus =
     rule 43 64 (
-    0x00 says "Uncategorized error" ∷
-    0x11 says "Asynchronous SError interrupt" ∷
+    0x00 means "Uncategorized error" ∷
+    0x11 means "Asynchronous SError interrupt" ∷
     [])
 
 -- WnR of SError where WnRV is 0 (serror.rs, decode_iss_serror)
 abbrev pub wnrNotValid : Rule
 wnrNotValid =
     rule 44 1 (
-    0 says "Not valid (see WnRV)" ∷
+    0 means "Not valid (see WnRV)" ∷
     [])
 
 -- The Rust's messages of refusals (lib.rs, DecodeError), by the refusal's number: what stands before the number that the refusal carries, and
--- what stands behind it.
+-- what stands after it.
 abbrev pub message : Rule
 message =
     rule 45 8 (
-    1 says "Invalid ESR, res0 is " ∷
-    2 says "Invalid EC " ∷
-    3 says "Invalid DFSC or IFSC " ∷
-    4 says "Invalid SET " ∷
-    5 says "Invalid AET " ∷
-    6 says "Invalid AM " ∷
-    7 says "Invalid ISS " ∷
+    1 means "Invalid ESR, res0 is " ∷
+    2 means "Invalid EC " ∷
+    3 means "Invalid DFSC or IFSC " ∷
+    4 means "Invalid SET " ∷
+    5 means "Invalid AET " ∷
+    6 means "Invalid AM " ∷
+    7 means "Invalid ISS " ∷
     [])
 
 abbrev pub messageEnd : Rule
 messageEnd =
     rule 46 8 (
-    7 says " for trapped LD64B or ST64B*" ∷
+    7 means " for trapped LD64B or ST64B*" ∷
     [])
 
 unfoldable pub rules : List Rule

@@ -3,7 +3,7 @@
 
 pub const LENGTH: usize = 7337;
 pub const COUNT: usize = 499;
-pub const PLACES: usize = 500;
+pub const START_COUNT: usize = 500;
 
 pub const POOL: [u8; 7337] = *b"\
     RES0\

@@ -1,16 +1,16 @@
--- The number of what is left, behind the number so far, is that of the whole; i bytes are below 256 ^ i, so that nothing wraps.
+-- The number of what is left, after the number so far, is that of the whole; i bytes are below 256 ^ i, so that nothing wraps.
 use Prim.Native.Nat.{_-_, _^_, _≤_, _<_}
 use borrow.Author.Needs.{needs}
 use lib.ListN.{length, drop}
 use mathlib.Core.Path.{_≡_, refl, sym, _∙_}
 use native.Mathlib.Omega.{arith}
-use Rattle.entry.proofs.Laws.{grows, room, behind-more, behind-done}
+use Rattle.entry.proofs.Laws.{grows, room, bytes-after-more, bytes-after-done}
 use Rattle.entry.proofs.big_endian.Statement.{statement}
 use Rattle.entry.proofs.big_endian.Tie as tie
-use Rattle.entry.specs.BigEndian.{behind}
+use Rattle.entry.specs.BigEndian.{bytesAfter}
 
 abbrev Inv-loop : tie.InvT-loop
-Inv-loop s number₀ i₀ number i = (i ≤ length s) × (number < 256 ^ i) × (behind 0 s ≡ behind number (drop i s))
+Inv-loop s number₀ i₀ number i = (i ≤ length s) × (number < 256 ^ i) × (bytesAfter 0 s ≡ bytesAfter number (drop i s))
 
 abbrev μ-loop : tie.MeasureT-loop
 μ-loop s number₀ i₀ number i = length s - i
@@ -45,14 +45,14 @@ loop-again c =
     let l = c .before .before .loop in (
       search needs,
       grows (l .i) (l .number) _ (l .inv .1) (c .shared-slice-known .given (l .i) .fits),
-      l .inv .2 ∙ behind-more (l .number) _ (l .i) (search needs),
+      l .inv .2 ∙ bytes-after-more (l .number) _ (l .i) (search needs),
     )
 
 returns : tie.Need-returns Inv-loop μ-loop
 returns c =
     let l = c .before .loop in
     let e : l .i ≡ length (c .before .before .args .s .now) = omega arith in
-    (sym (l .inv .2 ∙ behind-done (l .number) _ (l .i) e), rw e at (l .inv .1))
+    (sym (l .inv .2 ∙ bytes-after-done (l .number) _ (l .i) e), rw e at (l .inv .1))
 
 pub big-endian-spec : {M : Type 1} → statement M
 big-endian-spec =

@@ -1,8 +1,8 @@
--- The judgement tells which part is handed back: none of the block, or the 11 bytes behind its length, which are there.
+-- The judgement tells which part is handed back: none of the block, or the 11 bytes after its length, which are there.
 use mathlib.Core.Path.{_≡_}
 use borrow.Author.Tests.{eq-eqb, ne-eqb}
 use native.Mathlib.Omega.{arith}
-use Rattle.entry.proofs.Laws.{facts, told-sound, told-refused}
+use Rattle.entry.proofs.Laws.{facts, number-sound, number-refused}
 use Rattle.entry.specs.Entries.{judged, bodyOf}
 use Rattle.refusals.specs.Refusals.{reasonNumber}
 use borrow.Author.Needs.{needs}
@@ -28,11 +28,11 @@ returns : tie.Need-returns
 unfolding bodyOf
 returns c =
     let t = c .before in
-    simp (ne-eqb _ _ (told-refused (t .before .before .judge .ensures) (t .before .number .ensures) (t .if1 .taken)))
+    simp (ne-eqb _ _ (number-refused (t .before .before .judge .ensures) (t .before .number .ensures) (t .if1 .taken)))
 
 -- past the test nothing is refused, so that there are 13 bytes
 free : (c : tie.Else1) → reasonNumber (judged (c .before .before .before .before .args .block .now)) ≡ 0
-free c = told-sound (c .before .before .judge .ensures) (c .before .number .ensures) (c .if1 .left)
+free c = number-sound (c .before .before .judge .ensures) (c .before .number .ensures) (c .if1 .left)
 
 sub-result-2 : tie.Need-sub-result-2
 sub-result-2 c = omega (arith, facts _ (free c) .long)

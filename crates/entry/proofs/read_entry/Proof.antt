@@ -3,7 +3,7 @@ use mathlib.Core.Path.{_≡_, sym, ap, _∙_}
 use native.Mathlib.Omega.{arith}
 use Prim.Native.Nat.{_≤_}
 use lib.ListN.{length, drop, length-drop}
-use Rattle.entry.proofs.Laws.{part-below, facts, told-sound, told-refused, entry-sound, entry-refused}
+use Rattle.entry.proofs.Laws.{part-below, facts, number-sound, number-refused, entry-sound, entry-refused}
 use Rattle.entry.specs.Entries.{judged}
 use Rattle.refusals.specs.Refusals.{bare, reasonNumber}
 use Rattle.refusals.specs.declared.Reason.{Reason}
@@ -21,11 +21,11 @@ returns : tie.Need-returns
 returns c =
     let n = c .before in
     ap (λ (f : Reason). record { esr = 0; refusal = bare f; sequence = 0 }) (n .before .judge .ensures)
-    ∙ sym (entry-refused _ (told-refused (n .before .judge .ensures) (n .number .ensures) (c .if1 .taken)))
+    ∙ sym (entry-refused _ (number-refused (n .before .judge .ensures) (n .number .ensures) (c .if1 .taken)))
 
 -- past the test nothing is refused, so that there are 13 bytes
 free : (c : tie.Else1) → reasonNumber (judged (c .before .before .before .before .args .block .now)) ≡ 0
-free c = told-sound (c .before .before .judge .ensures) (c .before .number .ensures) (c .if1 .left)
+free c = number-sound (c .before .before .judge .ensures) (c .before .number .ensures) (c .if1 .left)
 
 sub-big-endian : tie.Need-sub-big-endian
 sub-big-endian c = search needs

@@ -1,5 +1,5 @@
 -- The top records written into the empty set are the set of the five; from there the invariant: the set is the top records with those of
--- the rows walked so far, and each turn writes one record behind them.
+-- the rows walked so far, and each turn writes one record after them.
 use mathlib.Core.Path.{_≡_, refl, ap, ap₂, _∙_}
 use mathlib.Core.List.{List, [], _∷_, map}
 use Prim.Native.Nat.{ℕ, _+_, _-_, _≤_}
@@ -7,14 +7,14 @@ use native.Mathlib.Omega.{arith}
 use lib.ListN.{take, set}
 use borrow.Author.Needs.{needs}
 use Rattle.texts.specs.Names.{names}
-use Rattle.texts.specs.Pool.{code, placeIn}
+use Rattle.texts.specs.Pool.{code, indexIn}
 use Rattle.records.specs.Rows.{recordOf}
 use Rattle.records.specs.Sets.{recordsOf}
 use Rattle.records.specs.declared.Record.{Record}
 use Rattle.records.specs.declared.Records.{Records}
 use Rattle.records.proofs.Laws.{pushedAll}
 use Rattle.layouts.specs.declared.Layout.{Layout}
-use Rattle.layouts.proofs.Places.{Fits, layout-fits}
+use Rattle.layouts.proofs.Indices.{Fits, layout-fits}
 use Rattle.tables.specs.Tables.{topRows}
 use Rattle.esr.proofs.Laws.{walked, laid-records, top-count, walk-count, walk-more}
 use Rattle.esr.proofs.all_records.Statement.{statement}
@@ -89,7 +89,7 @@ get-requires-6 : tie.Need-get-requires-6 Inv-loop μ-loop
 get-requires-6 c κs = tt
 
 loop-holds : tie.Need-loop-holds Inv-loop μ-loop
-unfolding pushedAll topRows code placeIn names
+unfolding pushedAll topRows code indexIn names
 loop-holds c =
     let g = c .before .before .before .before in
     let l = g .before .before in

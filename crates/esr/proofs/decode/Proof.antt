@@ -3,7 +3,7 @@ use mathlib.Core.Path.{sym, ap, _∙_}
 use Prim.Native.Nat.{ℕ}
 use native.Mathlib.Omega.{arith}
 use Rattle.texts.specs.Names.{names}
-use Rattle.texts.specs.Pool.{code, placeIn}
+use Rattle.texts.specs.Pool.{code, indexIn}
 use Rattle.refusals.specs.Refusals.{carrying}
 use Rattle.refusals.specs.declared.Reason.the-variants.{InvalidEc}
 use Rattle.records.proofs.Laws.{field-lt}
@@ -16,14 +16,14 @@ use Rattle.esr.proofs.decode.Statement.{statement}
 use Rattle.esr.proofs.decode.Tie as tie
 
 returns : tie.Need-returns
-unfolding code placeIn names
+unfolding code indexIn names
 returns c =
     let r = c .before in
     let m = r .before .before in
     c .refuse .ensures ∙ ap refused (r .refusal .ensures) ∙ top-fails (m .before .args .esr) (sym (m .meets .ensures) ∙ not-true _ (r .before .if1 .taken))
 
 returns-2 : tie.Need-returns-2
-unfolding code placeIn names
+unfolding code indexIn names
 returns-2 c =
     let n = c .before .before in
     let f = n .before in
@@ -34,7 +34,7 @@ returns-2 c =
     ∙ top-passes (m .before .args .esr) (sym (m .meets .ensures) ∙ not-false _ (f .before .if1 .left))
 
 returns-3 : tie.Need-returns-3
-unfolding code placeIn names
+unfolding code indexIn names
 returns-3 c =
     let n = c .before .before in
     let f = n .before in

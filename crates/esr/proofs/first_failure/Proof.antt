@@ -6,7 +6,7 @@ use lib.ListN.{getD, take, drop}
 use borrow.Author.Tests.{not-true, not-false}
 use Rattle.layouts.specs.Layouts.{layoutRoom}
 use Rattle.layouts.specs.Layouts.{tableOf}
-use Rattle.layouts.proofs.Places.{rowsAt, Fits, layout-fits, layout-checks}
+use Rattle.layouts.proofs.Indices.{rowsAt, Fits, layout-fits, layout-checks}
 use Rattle.esr.specs.Decode.{firstFailure, failureFor}
 use Rattle.esr.proofs.Laws.{check-fails, check-passes, checks-done}
 use Rattle.esr.proofs.first_failure.Statement.{statement}
@@ -28,7 +28,7 @@ loop-holds c =
     let l = c .layout-of in
     (layout-fits (a .number) (a .iss) (l .result) (l .ensures), omega arith, ap (firstFailure (a .iss)) (sym (layout-checks (a .number) (a .iss) (l .result) (l .ensures))))
 
--- the place of the row that is looked at lies within the layout
+-- the index of the row that is looked at lies within the layout
 within : (c : tie.In-loop Inv-loop μ-loop) → getD (c .before .before .layout-of .result .checks) (c .before .loop .i) 0 < layoutRoom
 within c = c .before .loop .inv .0 .within (c .before .loop .i) (omega arith)
 

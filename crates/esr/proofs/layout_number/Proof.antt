@@ -1,4 +1,4 @@
--- The table lists the number of each class's layout: computed once, and read at any place.
+-- The table lists the number of each class's layout: computed once, and read at any index.
 use Rattle.promise.proofs.Tests.{tab-at}
 use Rattle.tables.specs.Tables.{layouts}
 use Rattle.layouts.specs.Layouts.{layoutNumber}

@@ -1,4 +1,4 @@
--- Each arm's routine promises the layout of its table; the number is the table's place in the list. Past the last, the undivided one.
+-- Each arm's routine promises the layout of its table; the number is the table's index in the list. Past the last, the undivided one.
 use borrow.Author.Needs.{needs}
 use mathlib.Core.Path.{_≡_, sym, ap, _∙_}
 use Prim.Native.Nat.{ℕ, zero, suc, _+_, _-_, _≤_}

@@ -1,10 +1,10 @@
 -- The value is decoded or refused; then its listing is measured; then it is written, or the buffer is too short.
 use borrow.Author.Needs.{needs}
-use native.Mathlib.Omega.{arith}
-use mathlib.Core.Path.{_≡_, refl}
-use lib.ListN.{length}
-use Rattle.records.proofs.Laws.{long-as}
-use Rattle.listing.proofs.Answers.{listing-no, listing-yes, room}
+use mathlib.Core.Path.{refl}
+use Rattle.display.proofs.Cases.{listing-lent}
+use Rattle.records.specs.Sets.{listOf}
+use Rattle.listing.proofs.Answers.{listing-no, listing-yes}
+use Rattle.listing.proofs.Longest.{small}
 use Rattle.strings.proofs.Kept.{by-refusal, by-shortness, by-writing}
 use Rattle.listing.proofs.listing.Statement.{statement}
 use Rattle.listing.proofs.listing.Tie as tie
@@ -12,36 +12,25 @@ use Rattle.listing.proofs.listing.Tie as tie
 returns : tie.Need-returns
 returns c = by-refusal (listing-no _ (c .before .before .before .decode .ensures) (c .before .number .ensures) (c .if1 .taken)) refl
 
-all-length-requires : tie.Need-all-length-requires
-all-length-requires c κs =
-    let n = c .before .before .before in
-    let d = n .before .before in
-    let long : length (d .decode .result .records .items) ≡ 19 = search (long-as, d .decode .ok .1 .1 .1 .0 .1 .1 .0) in
-    (c .before .starting-places .ensures, room _ (d .decode .ensures) (n .number .ensures) long)
-
 returns-2 : tie.Need-returns-2
 returns-2 c =
-    let l = c .before .before in
-    let t = l .before .before .before in
-    by-shortness (listing-yes _ (t .before .before .before .decode .ensures) (t .before .number .ensures) (t .if1 .left)) (l .all-length .ensures) (c .before .if2 .taken) (c .refuse .ensures)
-
-put-all-requires : tie.Need-put-all-requires
-put-all-requires c κs =
     let p = c .before .before .before in
-    let l = p .before .before in
-    let s = l .before .before in
-    let n = s .before .before in
-    let d = n .before .before in
-    let long : length (d .decode .result .records .items) ≡ 19 = search (long-as, d .decode .ok .1 .1 .1 .0 .1 .1 .0) in
-    (record { whole = p .pool-bytes .ensures; each = s .starting-places .ensures }, room _ (d .decode .ensures) (n .number .ensures) long, omega (arith, l .all-length .ensures))
+    let o = p .before .before .before .before in
+    let i = o .before .before in
+    let d = i .before .before .before .decode in
+    let own = listing-lent (record { whole = o .pool-bytes .ensures; each = o .before .text-starts .ensures }) 0 (listOf (d .result .records)) in
+    by-shortness (listing-yes _ (d .ensures) (i .before .number .ensures) (i .if1 .left)) (small _ (d .ensures)) (rw own at (p .put-listing .ensures)) (c .before .if2 .taken) (c .refused .ensures)
 
 returns-3 : tie.Need-returns-3
 returns-3 c =
-    let w = c .before .before in
-    let f = w .before .before .before .before .before in
-    let l = f .before in
-    let t = l .before .before .before in
-    by-writing (listing-yes _ (t .before .before .before .decode .ensures) (t .before .number .ensures) (t .if1 .left)) (l .all-length .ensures) (f .if2 .left) (w .put-all .ensures) refl
+    let q = c .before .before in
+    let f = q .before .before .before .before in
+    let p = f .before .before in
+    let o = p .before .before .before .before in
+    let i = o .before .before in
+    let d = i .before .before .before .decode in
+    let own = listing-lent (record { whole = o .pool-bytes .ensures; each = o .before .text-starts .ensures }) 0 (listOf (d .result .records)) in
+    by-writing (listing-yes _ (d .ensures) (i .before .number .ensures) (i .if1 .left)) (small _ (d .ensures)) (rw own at (p .put-listing .ensures)) (f .if2 .left) (rw own at (q .put-listing2 .ensures)) refl
 
 pub listing-spec : {M : Type 1} → statement M
 listing-spec =
@@ -51,13 +40,15 @@ listing-spec =
     (λ c κs. search needs)
     returns
     (λ c κs. search needs)
+    (λ c κs. search needs)
     (λ c. search needs)
-    all-length-requires
+    (λ c. search needs)
+    (λ c. search needs)
+    (λ c κs. search needs)
     (λ c κs. search needs)
     returns-2
+    (λ c. search needs)
+    (λ c. search needs)
     (λ c κs. search needs)
-    (λ c. search needs)
-    (λ c. search needs)
-    put-all-requires
     (λ c. search needs)
     returns-3)

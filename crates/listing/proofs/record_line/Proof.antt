@@ -2,9 +2,14 @@
 use borrow.Author.Needs.{needs}
 use native.Mathlib.Omega.{arith}
 use mathlib.Core.Path.{_≡_, refl}
+use Prim.Native.Nat.{_^_, _<_}
 use lib.ListN.{length}
+use Rattle.display.specs.Listings.{lineText}
+use Rattle.display.proofs.Cases.{line-lent}
 use Rattle.records.proofs.Laws.{long-as}
+use Rattle.texts.specs.Pool.{bytesAt}
 use Rattle.listing.proofs.Answers.{line-refused, line-no, line-yes}
+use Rattle.listing.proofs.Longest.{line-small}
 use Rattle.strings.proofs.Kept.{by-refusal, by-shortness, by-writing}
 use Rattle.listing.proofs.record_line.Statement.{statement}
 use Rattle.listing.proofs.record_line.Tie as tie
@@ -17,33 +22,31 @@ returns-2 c =
     let t = c .before .before in
     let d = t .before .before .before in
     let long : length (d .decode .result .records .items) ≡ 19 = search (long-as, d .decode .ok .1 .1 .1 .0 .1 .1 .0) in
-    by-refusal (line-no _ (d .decode .ensures) (t .before .number .ensures) long (t .if1 .left) _ (c .before .if2 .taken)) (c .refuse .ensures)
+    by-refusal (line-no _ (d .decode .ensures) (t .before .number .ensures) long (t .if1 .left) _ (c .before .if2 .taken)) (c .refused .ensures)
 
 returns-3 : tie.Need-returns-3
 returns-3 c =
-    let l = c .before .before in
-    let a = l .before .before .before in
+    let p = c .before .before .before in
+    let o = p .before .before .before .before in
+    let a = o .before .before in
     let t = a .before .before in
     let d = t .before .before .before in
     let long : length (d .decode .result .records .items) ≡ 19 = search (long-as, d .decode .ok .1 .1 .1 .0 .1 .1 .0) in
-    by-shortness (line-yes _ (d .decode .ensures) (t .before .number .ensures) long (t .if1 .left) _ (a .before .if2 .left) _ (a .at .ensures)) (l .line-length .ensures .0) (c .before .if3 .taken) (c .refuse2 .ensures)
-
-put-line-requires : tie.Need-put-line-requires
-put-line-requires c κs =
-    let p = c .before .before .before in
-    let l = p .before .before in
-    (record { whole = p .pool-bytes .ensures; each = l .before .before .starting-places .ensures }, omega (arith, l .line-length .ensures .0))
+    let own = line-lent (record { whole = o .pool-bytes .ensures; each = o .before .text-starts .ensures }) (a .at .result) in
+    by-shortness (line-yes _ (d .decode .ensures) (t .before .number .ensures) long (t .if1 .left) _ (a .before .if2 .left) _ (a .at .ensures)) (line-small (a .at .result) (a .at .ok .1 .1 .1 .1 .1 .1 .1 .0 .1)) (rw own at (p .put-line .ensures)) (c .before .if3 .taken) (c .refused2 .ensures)
 
 returns-4 : tie.Need-returns-4
 returns-4 c =
-    let w = c .before .before in
-    let f = w .before .before .before .before .before in
-    let l = f .before in
-    let a = l .before .before .before in
+    let q = c .before .before in
+    let f = q .before .before .before .before in
+    let p = f .before .before in
+    let o = p .before .before .before .before in
+    let a = o .before .before in
     let t = a .before .before in
     let d = t .before .before .before in
     let long : length (d .decode .result .records .items) ≡ 19 = search (long-as, d .decode .ok .1 .1 .1 .0 .1 .1 .0) in
-    by-writing (line-yes _ (d .decode .ensures) (t .before .number .ensures) long (t .if1 .left) _ (a .before .if2 .left) _ (a .at .ensures)) (l .line-length .ensures .0) (f .if3 .left) (w .put-line .ensures) refl
+    let own = line-lent (record { whole = o .pool-bytes .ensures; each = o .before .text-starts .ensures }) (a .at .result) in
+    by-writing (line-yes _ (d .decode .ensures) (t .before .number .ensures) long (t .if1 .left) _ (a .before .if2 .left) _ (a .at .ensures)) (line-small (a .at .result) (a .at .ok .1 .1 .1 .1 .1 .1 .1 .0 .1)) (rw own at (p .put-line .ensures)) (f .if3 .left) (rw own at (q .put-line2 .ensures)) refl
 
 pub record-line-spec : {M : Type 1} → statement M
 record-line-spec =
@@ -56,13 +59,15 @@ record-line-spec =
     returns-2
     (λ c κs. search needs)
     (λ c κs. search needs)
+    (λ c κs. search needs)
     (λ c. search needs)
-    (λ c κs. c .before .starting-places .ensures)
+    (λ c. search needs)
+    (λ c. search needs)
+    (λ c κs. search needs)
     (λ c κs. search needs)
     returns-3
+    (λ c. search needs)
+    (λ c. search needs)
     (λ c κs. search needs)
-    (λ c. search needs)
-    (λ c. search needs)
-    put-line-requires
     (λ c. search needs)
     returns-4)

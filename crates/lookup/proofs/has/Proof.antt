@@ -5,7 +5,7 @@ use Prim.Native.Nat.{ℕ, _/_, _%_, _^_}
 use lib.Bits.{and-mask}
 use lib.Dec.{eqb, ltb}
 use borrow.Author.Tests.{lt-ltb, le-ltb}
-use Rattle.lookup.specs.Sayings.{bitIn}
+use Rattle.lookup.specs.Descriptions.{bitIn}
 use borrow.Author.Needs.{needs}
 use Rattle.lookup.proofs.has.Statement.{statement}
 use Rattle.lookup.proofs.has.Tie as tie

@@ -6,18 +6,18 @@ use Prim.Native.Nat.{ℕ}
 use native.Mathlib.Omega.{arith}
 use Rattle.promise.proofs.Tests.{others-le}
 use Rattle.texts.specs.Rules.{rules}
-use Rattle.texts.specs.Pool.{onList, ruleAt, says, placesOf, firstOf}
-use Rattle.lookup.specs.Sayings.{bitsOf, numbersOf}
-use Rattle.lookup.specs.declared.Saying.{Saying}
+use Rattle.texts.specs.Pool.{onList, ruleAt, describes, codesOf, firstOf}
+use Rattle.lookup.specs.Descriptions.{bitsOf, numbersOf}
+use Rattle.lookup.specs.declared.Descriptions.{Descriptions}
 use Rattle.lookup.proofs.Numbers.{one-bit, no-rule}
 use Rattle.lookup.proofs.in_numbers.Statement.{statement}
 use Rattle.lookup.proofs.in_numbers.Tie as tie
 
-arm : (k n : ℕ) (s : Saying) → n ≡ k → s ≡ numbersOf k → s ≡ numbersOf n
+arm : (k n : ℕ) (s : Descriptions) → n ≡ k → s ≡ numbersOf k → s ≡ numbersOf n
 arm k n s e h = h ∙ ap numbersOf (sym e)
 
 returns : tie.Need-returns
-unfolding numbersOf bitsOf says onList ruleAt firstOf placesOf rules
+unfolding numbersOf bitsOf describes onList ruleAt firstOf codesOf rules
 returns c = arm 0 (c .before .args .rule) _ (omega arith) refl
 
 sub-t4 : tie.Need-sub-t4
@@ -36,63 +36,63 @@ cast-t8 : tie.Need-cast-t8
 cast-t8 c = search needs
 
 returns-3 : tie.Need-returns-3
-unfolding numbersOf bitsOf says onList ruleAt firstOf placesOf rules
+unfolding numbersOf bitsOf describes onList ruleAt firstOf codesOf rules
 returns-3 c = arm 32 (c .before .before .before .args .rule) _ (omega arith) refl
 
 returns-4 : tie.Need-returns-4
-unfolding numbersOf bitsOf says onList ruleAt firstOf placesOf rules
+unfolding numbersOf bitsOf describes onList ruleAt firstOf codesOf rules
 returns-4 c = arm 33 (c .before .before .before .args .rule) _ (omega arith) refl
 
 returns-5 : tie.Need-returns-5
-unfolding numbersOf bitsOf says onList ruleAt firstOf placesOf rules
+unfolding numbersOf bitsOf describes onList ruleAt firstOf codesOf rules
 returns-5 c = arm 34 (c .before .before .before .args .rule) _ (omega arith) refl
 
 returns-6 : tie.Need-returns-6
-unfolding numbersOf bitsOf says onList ruleAt firstOf placesOf rules
+unfolding numbersOf bitsOf describes onList ruleAt firstOf codesOf rules
 returns-6 c = arm 35 (c .before .before .before .args .rule) _ (omega arith) refl
 
 returns-7 : tie.Need-returns-7
-unfolding numbersOf bitsOf says onList ruleAt firstOf placesOf rules
+unfolding numbersOf bitsOf describes onList ruleAt firstOf codesOf rules
 returns-7 c = arm 36 (c .before .before .before .args .rule) _ (omega arith) refl
 
 returns-8 : tie.Need-returns-8
-unfolding numbersOf bitsOf says onList ruleAt firstOf placesOf rules
+unfolding numbersOf bitsOf describes onList ruleAt firstOf codesOf rules
 returns-8 c = arm 37 (c .before .before .before .args .rule) _ (omega arith) refl
 
 returns-9 : tie.Need-returns-9
-unfolding numbersOf bitsOf says onList ruleAt firstOf placesOf rules
+unfolding numbersOf bitsOf describes onList ruleAt firstOf codesOf rules
 returns-9 c = arm 38 (c .before .before .before .args .rule) _ (omega arith) refl
 
 returns-10 : tie.Need-returns-10
-unfolding numbersOf bitsOf says onList ruleAt firstOf placesOf rules
+unfolding numbersOf bitsOf describes onList ruleAt firstOf codesOf rules
 returns-10 c = arm 39 (c .before .before .before .args .rule) _ (omega arith) refl
 
 returns-11 : tie.Need-returns-11
-unfolding numbersOf bitsOf says onList ruleAt firstOf placesOf rules
+unfolding numbersOf bitsOf describes onList ruleAt firstOf codesOf rules
 returns-11 c = arm 40 (c .before .before .before .args .rule) _ (omega arith) refl
 
 returns-12 : tie.Need-returns-12
-unfolding numbersOf bitsOf says onList ruleAt firstOf placesOf rules
+unfolding numbersOf bitsOf describes onList ruleAt firstOf codesOf rules
 returns-12 c = arm 41 (c .before .before .before .args .rule) _ (omega arith) refl
 
 returns-13 : tie.Need-returns-13
-unfolding numbersOf bitsOf says onList ruleAt firstOf placesOf rules
+unfolding numbersOf bitsOf describes onList ruleAt firstOf codesOf rules
 returns-13 c = arm 42 (c .before .before .before .args .rule) _ (omega arith) refl
 
 returns-14 : tie.Need-returns-14
-unfolding numbersOf bitsOf says onList ruleAt firstOf placesOf rules
+unfolding numbersOf bitsOf describes onList ruleAt firstOf codesOf rules
 returns-14 c = arm 43 (c .before .before .before .args .rule) _ (omega arith) refl
 
 returns-15 : tie.Need-returns-15
-unfolding numbersOf bitsOf says onList ruleAt firstOf placesOf rules
+unfolding numbersOf bitsOf describes onList ruleAt firstOf codesOf rules
 returns-15 c = arm 44 (c .before .before .before .args .rule) _ (omega arith) refl
 
 returns-16 : tie.Need-returns-16
-unfolding numbersOf bitsOf says onList ruleAt firstOf placesOf rules
+unfolding numbersOf bitsOf describes onList ruleAt firstOf codesOf rules
 returns-16 c = arm 45 (c .before .before .before .args .rule) _ (omega arith) refl
 
 returns-17 : tie.Need-returns-17
-unfolding numbersOf bitsOf says onList ruleAt firstOf placesOf rules
+unfolding numbersOf bitsOf describes onList ruleAt firstOf codesOf rules
 returns-17 c = arm 46 (c .before .before .before .args .rule) _ (omega arith) refl
 
 returns-18 : tie.Need-returns-18

@@ -1,8 +1,8 @@
--- The length is the next place less this one; past the last place it is 0, and where the next is not behind, the difference is 0.
+-- The length is the next place less this one; past the last place it is 0, and where the next is not after, the difference is 0.
 use mathlib.Core.Path.{sym}
 use native.Mathlib.Omega.{arith}
 use Rattle.texts.specs.Pool.{lengthIn}
-use Rattle.texts.proofs.Laws.{past-places}
+use Rattle.texts.proofs.Laws.{past-starts}
 use borrow.Author.Needs.{needs}
 use Rattle.lookup.proofs.length_in.Statement.{statement}
 use Rattle.lookup.proofs.length_in.Tie as tie
@@ -11,7 +11,7 @@ add-if1 : tie.Need-add-if1
 add-if1 c = search needs
 
 returns : tie.Need-returns
-returns c = sym (past-places (c .before .args .starts .now) (c .before .args .code) (omega arith))
+returns c = sym (past-starts (c .before .args .starts .now) (c .before .args .code) (omega arith))
 
 mul-from : tie.Need-mul-from
 mul-from c = search needs

@@ -6,8 +6,8 @@ use borrow.Author.Needs.{needs}
 use Rattle.lookup.proofs.length_of.Statement.{statement}
 use Rattle.lookup.proofs.length_of.Tie as tie
 
-starting-places-requires : tie.Need-starting-places-requires
-starting-places-requires c κs = search needs
+text-starts-requires : tie.Need-text-starts-requires
+text-starts-requires c κs = search needs
 
 slice-aggregate-length-in : tie.Need-slice-aggregate-length-in
 slice-aggregate-length-in c = search needs
@@ -18,10 +18,10 @@ length-in-requires c κs = search needs
 returns : tie.Need-returns
 returns c =
     c .length-in .ensures
-    ∙ ap (λ l. lengthIn l (c .before .before .before .args .code)) (c .before .before .starting-places .ensures)
+    ∙ ap (λ l. lengthIn l (c .before .before .before .args .code)) (c .before .before .text-starts .ensures)
     ∙ length-at (c .before .before .before .args .code)
 
 pub length-of-spec : {M : Type 1} → statement M
 length-of-spec =
     tie.close
-    (tie.spec starting-places-requires slice-aggregate-length-in length-in-requires returns)
+    (tie.spec text-starts-requires slice-aggregate-length-in length-in-requires returns)

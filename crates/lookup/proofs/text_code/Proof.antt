@@ -4,20 +4,20 @@ use mathlib.Core.Bool.{Bool, true, false, cond}
 use Prim.Native.Nat.{ℕ, _+_, _<_}
 use native.Mathlib.Omega.{arith}
 use Rattle.promise.proofs.Tests.{is-true}
-use Rattle.texts.specs.Pool.{says, firstOf, textCode}
-use Rattle.lookup.specs.Sayings.{bitIn, numbersOf}
-use Rattle.lookup.specs.declared.Saying.{Saying}
-use Rattle.lookup.proofs.Numbers.{bit-in, says-small, first-le}
+use Rattle.texts.specs.Pool.{describes, firstOf, textCode}
+use Rattle.lookup.specs.Descriptions.{bitIn, numbersOf}
+use Rattle.lookup.specs.declared.Descriptions.{Descriptions}
+use Rattle.lookup.proofs.Numbers.{bit-in, describes-small, first-le}
 use borrow.Author.Needs.{needs}
 use Rattle.lookup.proofs.text_code.Statement.{statement}
 use Rattle.lookup.proofs.text_code.Tie as tie
 
-told : (rule value : ℕ) (s : Saying) (b t : Bool) → s ≡ numbersOf rule → b ≡ bitIn (s .0) value → b ≡ t → says rule value ≡ t
-told rule value s b t is has tested = sym (bit-in rule value) ∙ ap (λ (x : Saying). bitIn (x .0) value) (sym is) ∙ sym has ∙ tested
+told : (rule value : ℕ) (s : Descriptions) (b t : Bool) → s ≡ numbersOf rule → b ≡ bitIn (s .0) value → b ≡ t → describes rule value ≡ t
+told rule value s b t is has tested = sym (bit-in rule value) ∙ ap (λ (x : Descriptions). bitIn (x .0) value) (sym is) ∙ sym has ∙ tested
 
-starts : (rule : ℕ) (s : Saying) → s ≡ numbersOf rule → s .1 ≡ firstOf rule
+starts : (rule : ℕ) (s : Descriptions) → s ≡ numbersOf rule → s .1 ≡ firstOf rule
 unfolding numbersOf
-starts rule s is = ap (λ (x : Saying). x .1) is
+starts rule s is = ap (λ (x : Descriptions). x .1) is
 
 in-numbers-requires : tie.Need-in-numbers-requires
 in-numbers-requires c κs = search needs
@@ -28,14 +28,14 @@ has-requires c κs = search needs
 cast-result : tie.Need-cast-result
 cast-result c =
     let value : ℕ = c .before .before .before .args .value in
-    let small : value < 64 = says-small (c .before .before .before .args .rule) value (is-true (told _ value _ _ true (c .before .before .in-numbers .ensures) (c .before .has .ensures) (c .if1 .taken))) in
+    let small : value < 64 = describes-small (c .before .before .before .args .rule) value (is-true (told _ value _ _ true (c .before .before .in-numbers .ensures) (c .before .has .ensures) (c .if1 .taken))) in
     omega arith
 
 add-result : tie.Need-add-result
 add-result c =
     let rule : ℕ = c .before .before .before .before .args .rule in
     let value : ℕ = c .before .before .before .before .args .value in
-    let small : value < 64 = says-small rule value (is-true (told rule value _ _ true (c .before .before .before .in-numbers .ensures) (c .before .before .has .ensures) (c .before .if1 .taken))) in
+    let small : value < 64 = describes-small rule value (is-true (told rule value _ _ true (c .before .before .before .in-numbers .ensures) (c .before .before .has .ensures) (c .before .if1 .taken))) in
     omega (arith, starts rule _ (c .before .before .before .in-numbers .ensures), first-le rule)
 
 returns : tie.Need-returns

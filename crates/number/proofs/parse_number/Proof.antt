@@ -1,49 +1,55 @@
--- Past an exact "0x" the rest is a number in base 16, and without it the whole is one in base 10.
-use mathlib.Core.Bool.{true}
-use mathlib.Core.Path.{sym, ap, _∙_}
-use Rattle.number.proofs.Laws.{hex-long, tail-part, number-hex, number-plain}
-use Rattle.number.specs.Numbers.{numberIn}
+-- Three characters at most are taken before the digits; the digits and the end are then those of a step for each byte.
+use mathlib.Core.Logic.{inr}
+use mathlib.Core.Path.{refl, ap, _∙_}
+use native.Mathlib.Omega.{arith}
+use Rattle.number.proofs.Steps.{Ahead, lead-ahead, ahead-number}
+use Rattle.number.specs.Steps.{finishOf}
 use borrow.Author.Needs.{needs}
 use Rattle.number.proofs.parse_number.Statement.{statement}
 use Rattle.number.proofs.parse_number.Tie as tie
 
-is-hex-requires : tie.Need-is-hex-requires
-is-hex-requires c κs = search needs
+start-requires : tie.Need-start-requires
+start-requires c κs = search needs
 
-sub-number-in : tie.Need-sub-number-in
-sub-number-in c = hex-long _ (sym (c .before .is-hex .ensures) ∙ c .if1 .taken)
+take-lead-requires : tie.Need-take-lead-requires
+take-lead-requires c κs = search needs
 
-part-number-in-start : tie.Need-part-number-in-start
-part-number-in-start c = hex-long _ (sym (c .before .is-hex .ensures) ∙ c .if1 .taken)
+take-lead-requires-2 : tie.Need-take-lead-requires-2
+take-lead-requires-2 c κs = search needs
 
-part-number-in-end : tie.Need-part-number-in-end
-part-number-in-end c = search needs
+take-lead-requires-3 : tie.Need-take-lead-requires-3
+take-lead-requires-3 c κs = search needs
 
-number-in-requires : tie.Need-number-in-requires
-number-in-requires c κs = search needs
+ahead : (c : tie.After-take-lead3) → Ahead (c .before .before .before .before .before .args .s .now) 3 (c .take-lead3 .result)
+ahead c =
+    let a = c .before .before in
+    let s = a .before .before .before .args .s .now in
+    lead-ahead s 2 _ (c .take-lead3 .ensures)
+    (lead-ahead s 1 _ (c .before .take-lead2 .ensures)
+    (lead-ahead s 0 _ (a .take-lead .ensures) (rw (a .before .start .ensures) (refl, refl, inr (omega arith)))))
+
+read-digits-requires : tie.Need-read-digits-requires
+read-digits-requires c κs = ahead (c .before .before) .0
+
+finish-requires : tie.Need-finish-requires
+finish-requires c κs = search needs
 
 returns : tie.Need-returns
 returns c =
-    let t = c .before .before in
-    c .number-in .ensures
-    ∙ ap (numberIn true) (tail-part 2 (t .before .before .before .args .s .now))
-    ∙ sym (number-hex _ (sym (t .before .is-hex .ensures) ∙ t .if1 .taken))
+    let l = c .before .before .before .before in
+    c .finish .ensures ∙ ap finishOf (c .before .read-digits .ensures) ∙ ahead-number _ (l .take-lead3 .result) (ahead l)
 
-number-in-requires-2 : tie.Need-number-in-requires-2
-number-in-requires-2 c κs = search needs
+read-digits-requires-2 : tie.Need-read-digits-requires-2
+read-digits-requires-2 c κs = ahead (c .before .before) .0
+
+finish-requires-2 : tie.Need-finish-requires-2
+finish-requires-2 c κs = search needs
 
 returns-2 : tie.Need-returns-2
-returns-2 c = c .number-in2 .ensures ∙ sym (number-plain _ (sym (c .before .before .is-hex .ensures) ∙ c .before .if1 .left))
+returns-2 c =
+    let l = c .before .before .before .before in
+    c .finish2 .ensures ∙ ap finishOf (c .before .read-digits2 .ensures) ∙ ahead-number _ (l .take-lead3 .result) (ahead l)
 
 pub parse-number-spec : {M : Type 1} → statement M
 parse-number-spec =
-    tie.close
-    (tie.spec
-    is-hex-requires
-    sub-number-in
-    part-number-in-start
-    part-number-in-end
-    number-in-requires
-    returns
-    number-in-requires-2
-    returns-2)
+    tie.close (tie.spec start-requires take-lead-requires take-lead-requires-2 take-lead-requires-3 read-digits-requires finish-requires returns read-digits-requires-2 finish-requires-2 returns-2)

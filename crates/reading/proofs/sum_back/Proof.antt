@@ -1,4 +1,4 @@
--- By the count: all of up to five records are leaves; of more, the first four and those behind the fifth.
+-- By the count: all of up to five records are leaves; of more, the first four and those after the fifth.
 use mathlib.Core.List.{List}
 use mathlib.Core.Path.{_≡_}
 use native.Mathlib.Omega.{arith}

@@ -4,7 +4,7 @@ use Prim.Native.Nat.{ℕ}
 use native.Mathlib.Omega.{arith}
 use Rattle.promise.proofs.Tests.{others-le}
 use Rattle.records.specs.Kinds.{kindOf, reasonOf}
-use Rattle.records.proofs.AskedByKind.{no-reason}
+use Rattle.records.proofs.MetByKind.{no-reason}
 use Rattle.records.proofs.reason_of.Statement.{statement}
 use Rattle.records.proofs.reason_of.Tie as tie
 

@@ -5,7 +5,7 @@ use mathlib.Core.Bool.{true, false}
 use mathlib.Core.List.{List, [], _∷_}
 use Prim.Native.Nat.{ℕ}
 use Rattle.texts.specs.Names.{names}
-use Rattle.texts.specs.Pool.{code, placeIn}
+use Rattle.texts.specs.Pool.{code, indexIn}
 use Rattle.tables.specs.Shape.{Test, bit, isStatus, isExternal}
 use Rattle.tables.specs.Applying.{passes}
 use Rattle.records.specs.Kinds.{kindOf}
@@ -24,7 +24,7 @@ as-bit-requires : tie.Need-as-bit-requires
 as-bit-requires c κs = search needs
 
 returns : tie.Need-returns
-unfolding dataAbort code placeIn names kindOf
+unfolding dataAbort code indexIn names kindOf
 returns c =
     let v : ℕ = c .before .before .before .before .args .iss in
     layout-at dataAbort tests tt v (true ∷ true ∷ true ∷ passes v (bit 10) ∷ []) (
@@ -42,7 +42,7 @@ returns c =
     )
 
 returns-2 : tie.Need-returns-2
-unfolding dataAbort code placeIn names kindOf
+unfolding dataAbort code indexIn names kindOf
 returns-2 c =
     let v : ℕ = c .before .before .before .before .args .iss in
     layout-at dataAbort tests tt v (true ∷ passes v isExternal ∷ false ∷ passes v (bit 10) ∷ []) (
@@ -63,7 +63,7 @@ as-bit-requires-2 : tie.Need-as-bit-requires-2
 as-bit-requires-2 c κs = search needs
 
 returns-3 : tie.Need-returns-3
-unfolding dataAbort code placeIn names kindOf
+unfolding dataAbort code indexIn names kindOf
 returns-3 c =
     let v : ℕ = c .before .before .before .before .before .before .args .iss in
     layout-at dataAbort tests tt v (false ∷ true ∷ true ∷ true ∷ []) (
@@ -81,7 +81,7 @@ returns-3 c =
     )
 
 returns-4 : tie.Need-returns-4
-unfolding dataAbort code placeIn names kindOf
+unfolding dataAbort code indexIn names kindOf
 returns-4 c =
     let v : ℕ = c .before .before .before .before .before .before .args .iss in
     layout-at dataAbort tests tt v (false ∷ true ∷ true ∷ false ∷ []) (
@@ -102,7 +102,7 @@ is-external-abort-fsc-requires : tie.Need-is-external-abort-fsc-requires
 is-external-abort-fsc-requires c κs = search needs
 
 returns-5 : tie.Need-returns-5
-unfolding dataAbort code placeIn names kindOf
+unfolding dataAbort code indexIn names kindOf
 returns-5 c =
     let v : ℕ = c .before .before .before .before .before .before .args .iss in
     layout-at dataAbort tests tt v (false ∷ true ∷ false ∷ passes v (bit 10) ∷ []) (
@@ -120,7 +120,7 @@ returns-5 c =
     )
 
 returns-6 : tie.Need-returns-6
-unfolding dataAbort code placeIn names kindOf
+unfolding dataAbort code indexIn names kindOf
 returns-6 c =
     let v : ℕ = c .before .before .before .before .before .before .args .iss in
     layout-at dataAbort tests tt v (false ∷ false ∷ false ∷ passes v (bit 10) ∷ []) (

@@ -5,7 +5,7 @@ use mathlib.Core.Bool.{true, false}
 use mathlib.Core.List.{List, [], _∷_}
 use Prim.Native.Nat.{ℕ}
 use Rattle.texts.specs.Names.{names}
-use Rattle.texts.specs.Pool.{code, placeIn}
+use Rattle.texts.specs.Pool.{code, indexIn}
 use Rattle.tables.specs.Shape.{Test, isStatus, isExternal}
 use Rattle.records.specs.Kinds.{kindOf}
 use Rattle.tables.specs.Tables.{instructionAbort}
@@ -20,7 +20,7 @@ field-requires : tie.Need-field-requires
 field-requires c κs = search needs
 
 returns : tie.Need-returns
-unfolding instructionAbort code placeIn names kindOf
+unfolding instructionAbort code indexIn names kindOf
 returns c =
     let v : ℕ = c .before .before .args .iss in
     layout-at instructionAbort tests tt v (true ∷ true ∷ []) (
@@ -35,7 +35,7 @@ is-external-abort-fsc-requires : tie.Need-is-external-abort-fsc-requires
 is-external-abort-fsc-requires c κs = search needs
 
 returns-2 : tie.Need-returns-2
-unfolding instructionAbort code placeIn names kindOf
+unfolding instructionAbort code indexIn names kindOf
 returns-2 c =
     let v : ℕ = c .before .before .before .before .args .iss in
     layout-at instructionAbort tests tt v (true ∷ false ∷ []) (
@@ -47,7 +47,7 @@ returns-2 c =
     )
 
 returns-3 : tie.Need-returns-3
-unfolding instructionAbort code placeIn names kindOf
+unfolding instructionAbort code indexIn names kindOf
 returns-3 c =
     let v : ℕ = c .before .before .before .before .args .iss in
     layout-at instructionAbort tests tt v (false ∷ false ∷ []) (

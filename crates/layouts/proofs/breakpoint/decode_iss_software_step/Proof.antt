@@ -4,7 +4,7 @@ use mathlib.Core.Bool.{true, false}
 use mathlib.Core.List.{List, [], _∷_}
 use Prim.Native.Nat.{ℕ}
 use Rattle.texts.specs.Names.{names}
-use Rattle.texts.specs.Pool.{code, placeIn}
+use Rattle.texts.specs.Pool.{code, indexIn}
 use Rattle.tables.specs.Shape.{Test, bit}
 use Rattle.records.specs.Kinds.{kindOf}
 use Rattle.tables.specs.Tables.{softwareStep}
@@ -19,7 +19,7 @@ as-bit-requires : tie.Need-as-bit-requires
 as-bit-requires c κs = search needs
 
 returns : tie.Need-returns
-unfolding softwareStep code placeIn names kindOf
+unfolding softwareStep code indexIn names kindOf
 returns c =
     let v : ℕ = c .before .before .args .iss in
     layout-at softwareStep tests tt v (true ∷ []) (
@@ -28,7 +28,7 @@ returns c =
     )
 
 returns-2 : tie.Need-returns-2
-unfolding softwareStep code placeIn names kindOf
+unfolding softwareStep code indexIn names kindOf
 returns-2 c =
     let v : ℕ = c .before .before .args .iss in
     layout-at softwareStep tests tt v (false ∷ []) (

@@ -5,7 +5,7 @@ use mathlib.Core.Bool.{true, false}
 use mathlib.Core.List.{List, [], _∷_}
 use Prim.Native.Nat.{ℕ}
 use Rattle.texts.specs.Names.{names}
-use Rattle.texts.specs.Pool.{code, placeIn}
+use Rattle.texts.specs.Pool.{code, indexIn}
 use Rattle.tables.specs.Shape.{Test, bit, isStatus}
 use Rattle.tables.specs.Applying.{passes}
 use Rattle.records.specs.Kinds.{kindOf}
@@ -21,7 +21,7 @@ as-bit-requires : tie.Need-as-bit-requires
 as-bit-requires c κs = search needs
 
 returns : tie.Need-returns
-unfolding serror code placeIn names kindOf
+unfolding serror code indexIn names kindOf
 returns c =
     let v : ℕ = c .before .before .args .iss in
     layout-at serror tests tt v (true ∷ passes v (isStatus 0x11) ∷ passes v (bit 7) ∷ []) (
@@ -42,7 +42,7 @@ as-bit-requires-2 : tie.Need-as-bit-requires-2
 as-bit-requires-2 c κs = search needs
 
 returns-2 : tie.Need-returns-2
-unfolding serror code placeIn names kindOf
+unfolding serror code indexIn names kindOf
 returns-2 c =
     let v : ℕ = c .before .before .before .before .before .before .args .iss in
     layout-at serror tests tt v (false ∷ true ∷ true ∷ []) (
@@ -57,7 +57,7 @@ returns-2 c =
     )
 
 returns-3 : tie.Need-returns-3
-unfolding serror code placeIn names kindOf
+unfolding serror code indexIn names kindOf
 returns-3 c =
     let v : ℕ = c .before .before .before .before .before .before .args .iss in
     layout-at serror tests tt v (false ∷ true ∷ false ∷ []) (
@@ -72,7 +72,7 @@ returns-3 c =
     )
 
 returns-4 : tie.Need-returns-4
-unfolding serror code placeIn names kindOf
+unfolding serror code indexIn names kindOf
 returns-4 c =
     let v : ℕ = c .before .before .before .before .args .iss in
     layout-at serror tests tt v (false ∷ false ∷ passes v (bit 7) ∷ []) (

@@ -3,10 +3,10 @@ use mathlib.Core.Path.{sym, ap, _∙_}
 use Prim.Native.Nat.{ℕ}
 use native.Mathlib.Omega.{arith}
 use lib.Dec.{eqb}
-use Rattle.texts.specs.Pool.{says}
+use Rattle.texts.specs.Pool.{describes}
 use Rattle.records.specs.Kinds.{kindOf, allows}
 use Rattle.records.specs.Rows.{meets, valueIn}
-use Rattle.records.proofs.AskedByKind.{coded-allows, free-allows}
+use Rattle.records.proofs.MetByKind.{coded-allows, free-allows}
 use borrow.Author.Needs.{needs}
 use Rattle.records.proofs.Row.meets.Statement.{statement}
 use Rattle.records.proofs.Row.meets.Tie as tie
@@ -23,8 +23,8 @@ unfolding meets
 returns-2 c =
     let k = c .before .before in
     let a = k .before .before .before .args in
-    c .says .ensures
-    ∙ ap (says (a .self .rule)) (c .before .field2 .ensures)
+    c .describes .ensures
+    ∙ ap (describes (a .self .rule)) (c .before .field2 .ensures)
     ∙ sym (coded-allows (a .self .kind) (a .self .rule) (valueIn (a .v) (a .self)) (k .before .if2 .taken) (k .if3 .taken))
 
 returns-3 : tie.Need-returns-3

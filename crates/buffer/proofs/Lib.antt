@@ -1,0 +1,4 @@
+pub mod Writing
+pub mod Appending
+pub mod Lent
+pub mod Decides

@@ -1,0 +1,31 @@
+-- Each promise of this crate decides its answer: it says what the answer is, and what the lent array holds then.
+use Rattle.capi.specs.Promises.{BinaryFilled, RecordsFilled, EntryAnswered, LineFilled, ListingFilled, MessageFilled, NumberAnswered, TextFilled, ValueFilled}
+use Rattle.promise.proofs.Laws.{same}
+use Rattle.promise.specs.Promise.{Decides}
+
+pub esr-decode-decides : Decides RecordsFilled
+esr-decode-decides (esr, before) a b = same
+
+pub esr-text-decides : Decides TextFilled
+esr-text-decides (code, before) a b = same
+
+pub esr-value-string-decides : Decides ValueFilled
+esr-value-string-decides (width, value, before) a b = same
+
+pub esr-value-binary-string-decides : Decides BinaryFilled
+esr-value-binary-string-decides (width, value, before) a b = same
+
+pub esr-message-decides : Decides MessageFilled
+esr-message-decides (number, carried, before) a b = same
+
+pub esr-record-line-decides : Decides LineFilled
+esr-record-line-decides (esr, index, before) a b = same
+
+pub esr-listing-decides : Decides ListingFilled
+esr-listing-decides (esr, before) a b = same
+
+pub esr-parse-number-decides : Decides NumberAnswered
+esr-parse-number-decides s a b = same
+
+pub esr-read-entry-decides : Decides EntryAnswered
+esr-read-entry-decides s a b = same

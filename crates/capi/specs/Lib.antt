@@ -1,0 +1,4 @@
+pub mod Answers
+pub mod Buffers
+pub mod Words
+pub mod Promises

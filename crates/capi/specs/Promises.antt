@@ -1,0 +1,47 @@
+-- What each public function promises. A promise takes what comes in, with what a lent array holds at entry, then what comes out, with what it
+-- holds at exit.
+use Prim.Native.Nat.{ℕ}
+use mathlib.Core.List.{List}
+use mathlib.Core.Path.{_≡_}
+use Rattle.listing.specs.Requested.{recordLine, listingOf}
+use Rattle.strings.specs.Requested.{valueString, binaryString, messageOf}
+use Rattle.texts.specs.Pool.{bytesAt}
+use Rattle.capi.specs.Answers.{numberAnswer, entryAnswer}
+use Rattle.capi.specs.Buffers.{filling, filledWith}
+use Rattle.capi.specs.Words.{decoding}
+use Rattle.capi.specs.declared.EntryAnswer.{EntryAnswer}
+use Rattle.capi.specs.declared.Filled.{Filled}
+use Rattle.capi.specs.declared.NumberAnswer.{NumberAnswer}
+
+-- the records of a value in the front of the caller's slots
+abbrev pub RecordsFilled : ℕ × List (List ℕ) → Filled × List (List ℕ) → Type 0
+RecordsFilled (esr, before) r = r ≡ decoding esr before
+
+-- the text of a code in the front of the caller's buffer; a code that no text has gives none
+abbrev pub TextFilled : ℕ × List ℕ → Filled × List ℕ → Type 0
+TextFilled (code, before) r = r ≡ filling (bytesAt code) before
+
+-- a field's two value strings
+abbrev pub ValueFilled : ℕ × ℕ × List ℕ → Filled × List ℕ → Type 0
+ValueFilled (width, value, before) r = r ≡ filledWith (valueString width value) before
+
+abbrev pub BinaryFilled : ℕ × ℕ × List ℕ → Filled × List ℕ → Type 0
+BinaryFilled (width, value, before) r = r ≡ filledWith (binaryString width value) before
+
+-- a refusal's message
+abbrev pub MessageFilled : ℕ × ℕ × List ℕ → Filled × List ℕ → Type 0
+MessageFilled (number, carried, before) r = r ≡ filledWith (messageOf number carried) before
+
+-- the line of one record of a value, and the listing of all
+abbrev pub LineFilled : ℕ × ℕ × List ℕ → Filled × List ℕ → Type 0
+LineFilled (esr, index, before) r = r ≡ filledWith (recordLine esr index) before
+
+abbrev pub ListingFilled : ℕ × List ℕ → Filled × List ℕ → Type 0
+ListingFilled (esr, before) r = r ≡ filledWith (listingOf esr) before
+
+abbrev pub NumberAnswered : List ℕ → NumberAnswer → Type 0
+NumberAnswered s r = r ≡ numberAnswer s
+
+-- the numbers of an entry, and the slot of its body in the block
+abbrev pub EntryAnswered : List ℕ → EntryAnswer → Type 0
+EntryAnswered s r = r ≡ entryAnswer s

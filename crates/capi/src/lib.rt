@@ -1,0 +1,214 @@
+// The C functions: each calls a function of the crates below and tells its answer in numbers, a refusal as its number and what it carries.
+// `include/esr.h` declares them.
+ghost use Prim.Native.Nat.{_≤_};
+ghost use Rattle.capi.specs.Answers.{filledOf};
+ghost use Rattle.capi.specs.Buffers.{front};
+ghost use Rattle.capi.specs.Words.{wordsOf, allWords};
+ghost use Rattle.capi.specs.Promises.{BinaryFilled, RecordsFilled, EntryAnswered, LineFilled, ListingFilled, MessageFilled, NumberAnswered, TextFilled, ValueFilled};
+ghost use Rattle.records.specs.Sets.{setRoom};
+ghost use Rattle.refusals.specs.Refusals.{passed};
+ghost use Rattle.texts.specs.Pool.{bytesAt};
+ghost use lib.ListN.{length};
+ghost use mathlib.Core.Bool.{cond};
+ghost use mathlib.Core.Path.{_≡_};
+use records::Record;
+use records::Records;
+use refusals::Reason;
+use refusals::Refusal;
+use strings::Written;
+
+// How many slots or bytes the front of the caller's array now holds; none on a refusal.
+#[repr(C)]
+pub struct Filled {
+    pub carried: u64,
+    pub count: usize,
+    pub refusal: u8,
+}
+
+#[repr(C)]
+pub struct NumberAnswer {
+    pub value: u64,
+    pub carried: u64,
+    pub refusal: u8,
+}
+
+// The body is told by its slot in the caller's own block: where it starts, and how many bytes it has.
+#[repr(C)]
+pub struct EntryAnswer {
+    pub esr: u64,
+    pub carried: u64,
+    pub start: usize,
+    pub length: usize,
+    pub sequence: u16,
+    pub refusal: u8,
+}
+
+// The bytes of an entry's length, which stand before its body.
+const LENGTH_BYTES: usize = 2;
+
+fn filled_of(refusal: Refusal, count: usize) -> Filled
+    ensures { λ r. ⌜ r ≡ filledOf refusal count ⌝ }
+{
+    Filled {
+        carried: refusal.carries,
+        count,
+        refusal: refusal.number(),
+    }
+}
+
+// What a function of `strings` or `listing` wrote, or refused.
+fn filled_by_text(written: Written) -> Filled
+    ensures { λ r. ⌜ r ≡ filledOf (written .refusal) (written .bytes) ⌝ }
+{
+    let refusal = written.refusal;
+    filled_of(refusal, written.bytes)
+}
+
+// A record as two words, the second with all but the value: from low bits to high, as its fields lie in a little-endian machine.
+fn words(item: Record) -> [u64; 2]
+    ensures { λ r. ⌜ r ≡ wordsOf item ⌝ }
+{
+    let names = item.name as u64 + item.long as u64 * 0x1_0000;
+    let bits = item.start as u64 + item.width as u64 * 0x100;
+    [
+        item.value,
+        names + item.text as u64 * 0x1_0000_0000 + bits * 0x1_0000_0000_0000,
+    ]
+}
+
+fn put_records(records: Records, slots: &mut [[u64; 2]])
+    requires { ⌜ (records .count ≤ setRoom) × (records .count ≤ length (now slots)) ⌝ }
+    ensures { λ _. ⌜ (length (allWords records) ≡ records .count) × (now (slots .exit) ≡ front (allWords records) (now (slots .entry))) ⌝ }
+{
+    let mut i: usize = 0;
+    while i < records.count {
+        let item = records.items[i];
+        slots[i] = words(item);
+        i += 1;
+    }
+}
+
+#[no_mangle]
+pub extern "C" fn esr_decode(esr: u64, slots: &mut [[u64; 2]]) -> Filled
+    ensures { λ r. ⌜ RecordsFilled (esr, now (slots .entry)) (r, now (slots .exit)) ⌝ }
+{
+    let answer = esr::decode(esr);
+    let refusal = answer.refusal;
+    if refusal.number() != 0 {
+        return filled_of(refusal, 0);
+    }
+    let count = answer.records.count;
+    if slots.len() < count {
+        return filled_of(
+            Refusal {
+                carries: count as u64,
+                reason: Reason::ShortBuffer,
+            },
+            0,
+        );
+    }
+    put_records(answer.records, slots);
+    filled_of(Refusal::NONE, count)
+}
+
+fn write_text(code: u16, buf: &mut [u8])
+    requires { ⌜ length (bytesAt code) ≤ length (now buf) ⌝ }
+    ensures { λ _. ⌜ now (buf .exit) ≡ front (bytesAt code) (now (buf .entry)) ⌝ }
+{
+    let pool = texts::pool_bytes();
+    let starts = texts::text_starts();
+    buffer::put_text(buf, 0, &pool, &starts, code);
+}
+
+#[no_mangle]
+pub extern "C" fn esr_text(code: u16, buf: &mut [u8]) -> Filled
+    ensures { λ r. ⌜ TextFilled (code, now (buf .entry)) (r, now (buf .exit)) ⌝ }
+{
+    let length = lookup::length_of(code) as usize;
+    if buf.len() < length {
+        return filled_of(
+            Refusal {
+                carries: length as u64,
+                reason: Reason::ShortBuffer,
+            },
+            0,
+        );
+    }
+    write_text(code, buf);
+    filled_of(Refusal::NONE, length)
+}
+
+#[no_mangle]
+pub extern "C" fn esr_value_string(width: u64, value: u64, buf: &mut [u8]) -> Filled
+    ensures { λ r. ⌜ ValueFilled (width, value, now (buf .entry)) (r, now (buf .exit)) ⌝ }
+{
+    filled_by_text(strings::value_string(width, value, buf))
+}
+
+#[no_mangle]
+pub extern "C" fn esr_value_binary_string(width: u64, value: u64, buf: &mut [u8]) -> Filled
+    ensures { λ r. ⌜ BinaryFilled (width, value, now (buf .entry)) (r, now (buf .exit)) ⌝ }
+{
+    filled_by_text(strings::value_binary_string(width, value, buf))
+}
+
+#[no_mangle]
+pub extern "C" fn esr_message(number: u64, carried: u64, buf: &mut [u8]) -> Filled
+    ensures { λ r. ⌜ MessageFilled (number, carried, now (buf .entry)) (r, now (buf .exit)) ⌝ }
+{
+    filled_by_text(strings::message(number, carried, buf))
+}
+
+#[no_mangle]
+pub extern "C" fn esr_record_line(esr: u64, index: usize, buf: &mut [u8]) -> Filled
+    ensures { λ r. ⌜ LineFilled (esr, index, now (buf .entry)) (r, now (buf .exit)) ⌝ }
+{
+    filled_by_text(listing::record_line(esr, index, buf))
+}
+
+#[no_mangle]
+pub extern "C" fn esr_listing(esr: u64, buf: &mut [u8]) -> Filled
+    ensures { λ r. ⌜ ListingFilled (esr, now (buf .entry)) (r, now (buf .exit)) ⌝ }
+{
+    filled_by_text(listing::listing(esr, buf))
+}
+
+#[no_mangle]
+pub extern "C" fn esr_parse_number(s: &[u8]) -> NumberAnswer
+    ensures { λ r. ⌜ NumberAnswered (now (s .entry)) r ⌝ }
+{
+    let number = number::parse_number(s);
+    let refusal = number.refusal;
+    NumberAnswer {
+        value: number.value,
+        carried: refusal.carries,
+        refusal: refusal.number(),
+    }
+}
+
+// Where the body starts in the block: after the length's bytes, where there is one.
+fn body_start(refusal: Refusal) -> usize
+    ensures { λ r. ⌜ r ≡ cond (passed refusal) 2 0 ⌝ }
+{
+    if refusal.number() == 0 {
+        return LENGTH_BYTES;
+    }
+    0
+}
+
+#[no_mangle]
+pub extern "C" fn esr_read_entry(block: &[u8]) -> EntryAnswer
+    ensures { λ r. ⌜ EntryAnswered (now (block .entry)) r ⌝ }
+{
+    let numbers = entry::read_entry(block);
+    let refusal = numbers.refusal;
+    let body = entry::entry_body(block);
+    EntryAnswer {
+        esr: numbers.esr,
+        carried: refusal.carries,
+        start: body_start(refusal),
+        length: body.len(),
+        sequence: numbers.sequence,
+        refusal: refusal.number(),
+    }
+}

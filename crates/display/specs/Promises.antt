@@ -1,0 +1,16 @@
+-- What each public function promises: of what comes in and what the buffer holds before, the next offset and what the buffer holds after. The
+-- pool and its starts are whatever is lent.
+use Prim.Native.Nat.{ℕ}
+use mathlib.Core.List.{List}
+use Rattle.buffer.specs.Appending.{Appends}
+use Rattle.buffer.specs.Lent.{partIn}
+use Rattle.records.specs.Sets.{listOf}
+use Rattle.records.specs.declared.Record.{Record}
+use Rattle.records.specs.declared.Records.{Records}
+use Rattle.display.specs.Listings.{lineText, listingFrom}
+
+abbrev pub LinePut : List ℕ × ℕ × List ℕ × List ℕ × Record → ℕ × List ℕ → Type 0
+LinePut (before, at, lent, starting, item) out = Appends (lineText (partIn lent starting) item) (at, before) out
+
+abbrev pub ListingPut : List ℕ × ℕ × List ℕ × List ℕ × Records → ℕ × List ℕ → Type 0
+ListingPut (before, at, lent, starting, records) out = Appends (listingFrom (partIn lent starting) 0 (listOf records)) (at, before) out

@@ -1,4 +1,0 @@
-pub mod Answers
-pub mod Buffers
-pub mod Places
-pub mod Promises

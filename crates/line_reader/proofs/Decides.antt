@@ -1,0 +1,7 @@
+-- The promise of this crate decides its answer: it says what the answer is.
+use Rattle.line_reader.specs.Promises.{TookLine}
+use Rattle.promise.proofs.Laws.{same}
+use Rattle.promise.specs.Promise.{Decides}
+
+pub take-line-decides : Decides TookLine
+take-line-decides (st, s, from) a b = same

@@ -1,0 +1,38 @@
+-- What the promise comes to: a line that comes in parts has the number of the whole line. By induction over the characters of a part.
+use Prim.Native.Nat.{ℕ, _+_}
+use mathlib.Core.Bool.{Bool, true, false, cond, not, _&&_}
+use mathlib.Core.List.{List, [], _∷_, _++_}
+use mathlib.Core.Path.{_≡_, sym, ap, _∙_}
+use native.Mathlib.Omega.{arith}
+use lib.Dec.{T, eqb}
+use lib.ListN.{length}
+use Rattle.line_reader.specs.Lines.{lineFeed, partOf, oneLine}
+use Rattle.line_reader.specs.declared.LinePart.{LinePart}
+use Rattle.number.proofs.Steps.{steps-number}
+use Rattle.number.proofs.Theorems.{steps-append}
+use Rattle.number.specs.Numbers.{numberOf}
+use Rattle.number.specs.Steps.{start, stepOf, stepsOf, finishOf}
+use Rattle.number.specs.declared.NumberState.{NumberState}
+
+-- what is read of a line does not depend on where the input is cut
+pub in-parts : (st : NumberState) (at : ℕ) (p q : List ℕ) → T (oneLine p) → partOf st at (p ++ q) ≡ partOf (stepsOf st p) (at + length p) q
+unfolding partOf stepsOf oneLine
+in-parts st at [] q t = ap (λ (n : ℕ). partOf st n q) (omega arith)
+in-parts st at (b ∷ p) q t =
+    by-feed (eqb b lineFeed) t
+    (λ u. in-parts (stepOf st b) (at + 1) p q u ∙ ap (λ (n : ℕ). partOf (stepsOf (stepOf st b) p) n q) (omega arith))
+  where
+    by-feed : (f : Bool) → T (not f && oneLine p)
+        → (T (oneLine p) → partOf (stepOf st b) (at + 1) (p ++ q) ≡ partOf (stepsOf (stepOf st b) p) (at + length (b ∷ p)) q)
+        → cond f (record { state = st; next = at + 1; ended = true }) (partOf (stepOf st b) (at + 1) (p ++ q))
+        ≡ partOf (stepsOf (stepOf st b) p) (at + length (b ∷ p)) q
+    by-feed false u more = more u
+
+-- a line whose first bytes came in earlier parts, up to its line feed: its number is that of all its bytes
+pub line-number : (p q rest : List ℕ) (at : ℕ) → T (oneLine q)
+    → finishOf (partOf (stepsOf start p) at (q ++ (lineFeed ∷ rest)) .state) ≡ numberOf (p ++ q)
+unfolding partOf
+line-number p q rest at t =
+    ap (λ (r : LinePart). finishOf (r .state)) (in-parts (stepsOf start p) at q (lineFeed ∷ rest) t)
+    ∙ ap finishOf (sym (steps-append start p q))
+    ∙ steps-number (p ++ q)

@@ -1,0 +1,14 @@
+-- The reason at the end is what the stage and the reason so far give.
+use borrow.Author.Needs.{needs}
+use Rattle.number.proofs.NumberState.finish.Statement.{statement}
+use Rattle.number.proofs.NumberState.finish.Tie as tie
+
+end-reason-requires : tie.Need-end-reason-requires
+end-reason-requires c κs = search needs
+
+returns : tie.Need-returns
+returns c = rw (c .end-reason .ensures)
+
+pub finish-spec : {M : Type 1} → statement M
+finish-spec =
+    tie.close (tie.spec end-reason-requires returns)

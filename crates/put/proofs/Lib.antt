@@ -1,4 +1,0 @@
-pub mod Writing
-pub mod Room
-pub mod Lent
-pub mod Decides

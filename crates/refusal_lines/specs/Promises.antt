@@ -1,0 +1,11 @@
+-- What each public function promises: of what comes in and what the buffer holds before, the next offset and what the buffer holds after.
+use Prim.Native.Nat.{ℕ}
+use mathlib.Core.List.{List}
+use Rattle.buffer.specs.Appending.{Appends}
+use Rattle.refusal_lines.specs.Refused.{carriedLine, refusalLine}
+
+abbrev pub RefusalLine : List ℕ × ℕ × ℕ × ℕ → ℕ × List ℕ → Type 0
+RefusalLine (before, at, number, carried) out = Appends (refusalLine number carried) (at, before) out
+
+abbrev pub CarriedLine : List ℕ × ℕ × ℕ × ℕ → ℕ × List ℕ → Type 0
+CarriedLine (before, at, number, carried) out = Appends (carriedLine number carried) (at, before) out

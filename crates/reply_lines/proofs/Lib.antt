@@ -1,0 +1,3 @@
+pub mod InOrder
+pub mod Cases
+pub mod Decides

@@ -1,0 +1,3 @@
+pub mod InOrder
+pub mod Lines
+pub mod Promises

@@ -1,0 +1,424 @@
+/* Holds include/esr.h against the archive: calls every function as C does, with arrays of every length about the needed one and a sentinel
+   after, and looks at every member of every answer. The answers themselves are proved; what is not is that C and the archive mean the same
+   by a struct and a parameter. It then measures how deep each function's stack goes. tools/capi builds and runs it. */
+#include "esr.h"
+#include "put.h"
+
+#define SENTINEL 0xA5
+#define ROOM (ESR_RECORDS_MAX + 13)
+/* Much more than any text. */
+#define BYTES (4 * ESR_LISTING_MAX)
+
+static unsigned checks;
+static unsigned failures;
+
+static void holds(int fact, unsigned line) {
+    checks++;
+    if (!fact) {
+        failures++;
+        say("line ");
+        say_number(line, 10);
+        say(" of tools/capi.c does not hold\n");
+    }
+}
+#define HOLDS(fact) holds((fact), __LINE__)
+
+static void mark(uint8_t *bytes, size_t length) {
+    for (size_t i = 0; i < length; i++) {
+        *(volatile uint8_t *)(bytes + i) = SENTINEL;
+    }
+}
+
+static int marked(const uint8_t *bytes, size_t from, size_t to) {
+    for (size_t i = from; i < to; i++) {
+        if (bytes[i] != SENTINEL) {
+            return 0;
+        }
+    }
+    return 1;
+}
+
+static int same(const uint8_t *a, const uint8_t *b, size_t length) {
+    for (size_t i = 0; i < length; i++) {
+        if (a[i] != b[i]) {
+            return 0;
+        }
+    }
+    return 1;
+}
+
+static int answers(esr_filled filled, uint8_t refusal, uint64_t carried, size_t count) {
+    return filled.refusal == refusal && filled.carried == carried && filled.count == count;
+}
+
+/* The values that 01 marks: the refusal with what it carries, or the count of records. */
+static const struct {
+    uint64_t esr;
+    uint64_t carried;
+    size_t count;
+    uint8_t refusal;
+} values[] = {
+    {0x0, 0, 6, 0},         {0x56000001, 0, 7, 0},  {0x2000000000, 1, 0, 1}, {0xFC000000, 0x3F, 0, 2}, {0x20FC000000, 1, 0, 1},
+    {0x54010000, 1, 0, 1},  {0x90000810, 1, 0, 4},  {0x90000804, 0, 18, 0},  {0x90010010, 0, 19, 0},   {0xBC001000, 4, 0, 5},
+    {0xBC001002, 2, 0, 3},  {0xBDFFFFFF, 0, 7, 0},  {0xBC000051, 1, 0, 1},   {0x1800000A, 5, 0, 6},    {0x28000003, 3, 0, 7},
+};
+
+static union {
+    esr_record records[ROOM];
+    uint8_t bytes[ROOM * sizeof(esr_record)];
+} slots, whole;
+
+static void check_lengths(size_t index) {
+    uint64_t esr = values[index].esr;
+    size_t count = values[index].count;
+    uint8_t refusal = values[index].refusal;
+    mark(whole.bytes, sizeof whole.bytes);
+    HOLDS(answers(esr_decode(esr, whole.records, ROOM), refusal, values[index].carried, count));
+    HOLDS(marked(whole.bytes, count * sizeof(esr_record), sizeof whole.bytes));
+    for (size_t length = 0; length <= ROOM; length++) {
+        mark(slots.bytes, sizeof slots.bytes);
+        esr_filled filled = esr_decode(esr, slots.records, length);
+        if (refusal == ESR_ACCEPTED && length < count) {
+            HOLDS(answers(filled, ESR_SHORT_BUFFER, count, 0));
+            HOLDS(marked(slots.bytes, 0, sizeof slots.bytes));
+        } else {
+            HOLDS(answers(filled, refusal, values[index].carried, count));
+            HOLDS(same(slots.bytes, whole.bytes, sizeof slots.bytes));
+        }
+    }
+}
+
+/* The functions that write a text, as one form: those that take one number leave the other. */
+typedef esr_filled (*writer)(uint64_t, uint64_t, uint8_t *, size_t);
+
+static esr_filled write_text(uint64_t code, uint64_t none, uint8_t *buffer, size_t length) {
+    (void)none;
+    return esr_text((uint16_t)code, buffer, length);
+}
+
+static esr_filled write_listing(uint64_t esr, uint64_t none, uint8_t *buffer, size_t length) {
+    (void)none;
+    return esr_listing(esr, buffer, length);
+}
+
+static esr_filled write_record_line(uint64_t esr, uint64_t index, uint8_t *buffer, size_t length) {
+    return esr_record_line(esr, (size_t)index, buffer, length);
+}
+
+static uint8_t text[BYTES];
+static uint8_t kept[BYTES];
+
+static int says(writer write, uint64_t a, uint64_t b, const char *words) {
+    size_t length = length_of(words);
+    return answers(write(a, b, text, BYTES), ESR_ACCEPTED, 0, length) && same(text, (const uint8_t *)words, length);
+}
+
+static int refuses_text(writer write, uint64_t a, uint64_t b, uint8_t refusal, uint64_t carried) {
+    int fact = 1;
+    for (size_t length = 0; length <= BYTES; length += BYTES / 8) {
+        mark(text, BYTES);
+        fact = fact && answers(write(a, b, text, length), refusal, carried, 0) && marked(text, 0, BYTES);
+    }
+    return fact;
+}
+
+/* A text in buffers of no bytes, one short, exact, one more and `room`, which is much more; gives the bytes that it needs. */
+static size_t check_room(writer write, uint64_t a, uint64_t b, size_t room) {
+    mark(text, room);
+    esr_filled filled = write(a, b, text, 0);
+    size_t needed = filled.refusal == ESR_ACCEPTED ? 0 : (size_t)filled.carried;
+    HOLDS(needed < room);
+    HOLDS(answers(filled, needed == 0 ? ESR_ACCEPTED : ESR_SHORT_BUFFER, needed, 0));
+    HOLDS(marked(text, 0, room));
+    if (needed != 0) {
+        HOLDS(answers(write(a, b, text, needed - 1), ESR_SHORT_BUFFER, needed, 0));
+        HOLDS(marked(text, 0, room));
+    }
+    mark(kept, room);
+    HOLDS(answers(write(a, b, kept, room), ESR_ACCEPTED, 0, needed));
+    HOLDS(marked(kept, needed, room));
+    HOLDS(answers(write(a, b, text, needed), ESR_ACCEPTED, 0, needed));
+    HOLDS(same(text, kept, room));
+    mark(text, room);
+    HOLDS(answers(write(a, b, text, needed + 1), ESR_ACCEPTED, 0, needed));
+    HOLDS(same(text, kept, room));
+    return needed;
+}
+
+static int named(uint16_t code, const char *words) {
+    return says(write_text, code, 0, words);
+}
+
+static int is(size_t slot, const char *name, const char *long_name, const char *words, unsigned start, unsigned width, uint64_t value) {
+    const esr_record *record = &slots.records[slot];
+    return record->start == start && record->width == width && record->value == value && named(record->name, name) &&
+           named(record->long_name, long_name) && named(record->text, words);
+}
+
+/* Every member of a record, by the value that 01 lists in full and by one with distinct numbers in most fields. */
+static void check_members(void) {
+    HOLDS(esr_decode(0x56000001, slots.records, ROOM).count == 7);
+    HOLDS(is(0, "RES0", "Reserved", "", 37, 27, 0));
+    HOLDS(is(1, "ISS2", "", "", 32, 5, 0));
+    HOLDS(is(2, "EC", "Exception Class", "SVC instruction execution in AArch64 state", 26, 6, 0x15));
+    HOLDS(is(3, "IL", "Instruction Length", "32-bit instruction trapped", 25, 1, 1));
+    HOLDS(is(4, "ISS", "Instruction Specific Syndrome", "", 0, 25, 1));
+    HOLDS(is(5, "RES0", "Reserved", "", 16, 9, 0));
+    HOLDS(is(6, "imm16", "Value of the immediate field", "", 0, 16, 1));
+    HOLDS(esr_decode(0x1F56ABCDEF, slots.records, ROOM).refusal == ESR_INVALID_RES0);
+    HOLDS(esr_decode(0x1F5600CDEF, slots.records, ROOM).count == 7);
+    HOLDS(is(1, "ISS2", "", "", 32, 5, 0x1F));
+    HOLDS(is(6, "imm16", "Value of the immediate field", "", 0, 16, 0xCDEF));
+}
+
+static void check_texts(void) {
+    for (unsigned code = 0; code <= 0xFFFF; code++) {
+        HOLDS(check_room(write_text, code, 0, ESR_TEXT_MAX + 45) <= ESR_TEXT_MAX);
+    }
+}
+
+static void check_value_strings(void) {
+    HOLDS(says(esr_value_string, 1, 0, "false"));
+    HOLDS(says(esr_value_string, 1, 1, "true"));
+    HOLDS(says(esr_value_string, 2, 3, "0x3"));
+    HOLDS(says(esr_value_string, 5, 0xA, "0x0a"));
+    HOLDS(says(esr_value_string, 64, 0x0123456789ABCDEF, "0x0123456789abcdef"));
+    HOLDS(says(esr_value_binary_string, 1, 0, "0b0"));
+    HOLDS(says(esr_value_binary_string, 1, 1, "0b1"));
+    HOLDS(says(esr_value_binary_string, 5, 0xA, "0b01010"));
+    static const writer both[] = {esr_value_string, esr_value_binary_string};
+    for (size_t i = 0; i < 2; i++) {
+        HOLDS(refuses_text(both[i], 0, 0, ESR_BAD_FIELD, 0));
+        HOLDS(refuses_text(both[i], 65, 0, ESR_BAD_FIELD, 0));
+        HOLDS(refuses_text(both[i], 0x100000001, 1, ESR_BAD_FIELD, 0));
+        for (uint64_t width = 1; width <= 64; width++) {
+            check_room(both[i], width, 0, BYTES);
+            check_room(both[i], width, 0xFFFFFFFFFFFFFFFF >> (64 - width), BYTES);
+            if (width < 64) {
+                HOLDS(refuses_text(both[i], width, (uint64_t)1 << width, ESR_BAD_FIELD, 0));
+            }
+        }
+    }
+}
+
+static void check_messages(void) {
+    HOLDS(says(esr_message, 1, 1, "Invalid ESR, res0 is 0x1"));
+    HOLDS(says(esr_message, 2, 0x3F, "Invalid EC 0x3f"));
+    HOLDS(says(esr_message, 3, 2, "Invalid DFSC or IFSC 0x2"));
+    HOLDS(says(esr_message, 4, 1, "Invalid SET 0x1"));
+    HOLDS(says(esr_message, 5, 4, "Invalid AET 0x4"));
+    HOLDS(says(esr_message, 6, 0, "Invalid AM 0x0"));
+    HOLDS(says(esr_message, 7, 0xFFFFFFFFFFFFFFFF, "Invalid ISS 0xffffffffffffffff for trapped LD64B or ST64B*"));
+    for (uint64_t number = 1; number <= 7; number++) {
+        check_room(esr_message, number, 0, BYTES);
+        check_room(esr_message, number, 0x0123456789ABCDEF, BYTES);
+    }
+    HOLDS(refuses_text(esr_message, 0, 0, ESR_BAD_FIELD, 0));
+    HOLDS(refuses_text(esr_message, 8, 0, ESR_BAD_FIELD, 0));
+    HOLDS(refuses_text(esr_message, 0x100000001, 1, ESR_BAD_FIELD, 0));
+}
+
+/* The value that 01 lists in full, a line to a record and its text's line after it. */
+static const struct {
+    const char *line;
+    const char *rest;
+} listed[] = {
+    {"RES0: 0x0000000 0b000000000000000000000000000", "\n"},
+    {"ISS2: 0x00 0b00000", "\n"},
+    {"EC: 0x15 0b010101", "\n# SVC instruction execution in AArch64 state\n"},
+    {"IL: true", "\n# 32-bit instruction trapped\n"},
+    {"ISS: 0x0000001 0b0000000000000000000000001", "\n  "},
+    {"RES0: 0x000 0b000000000", "\n  "},
+    {"imm16: 0x0001 0b0000000000000001", "\n"},
+};
+
+static void check_listed(void) {
+    size_t records = sizeof listed / sizeof listed[0];
+    size_t at = 0;
+    esr_filled filled = esr_listing(0x56000001, kept, BYTES);
+    HOLDS(filled.refusal == ESR_ACCEPTED);
+    for (size_t i = 0; i < records; i++) {
+        const char *parts[] = {listed[i].line, listed[i].rest};
+        HOLDS(says(write_record_line, 0x56000001, i, listed[i].line));
+        for (size_t part = 0; part < 2; part++) {
+            size_t length = length_of(parts[part]);
+            HOLDS(same(kept + at, (const uint8_t *)parts[part], length));
+            at += length;
+        }
+    }
+    HOLDS(filled.count == at);
+    /* the longest listing that is known */
+    HOLDS(answers(esr_listing(0xBC048411, text, 0), ESR_SHORT_BUFFER, 950, 0));
+}
+
+static void check_listings(size_t index) {
+    uint64_t esr = values[index].esr;
+    size_t count = values[index].count;
+    if (values[index].refusal != ESR_ACCEPTED) {
+        HOLDS(refuses_text(write_listing, esr, 0, values[index].refusal, values[index].carried));
+        HOLDS(refuses_text(write_record_line, esr, 0, values[index].refusal, values[index].carried));
+        HOLDS(refuses_text(write_record_line, esr, ESR_RECORDS_MAX, values[index].refusal, values[index].carried));
+        return;
+    }
+    HOLDS(check_room(write_listing, esr, 0, BYTES) <= ESR_LISTING_MAX);
+    for (size_t i = 0; i < count; i++) {
+        check_room(write_record_line, esr, i, BYTES);
+    }
+    HOLDS(refuses_text(write_record_line, esr, count, ESR_BAD_INDEX, count));
+    HOLDS(refuses_text(write_record_line, esr, 0x100000000, ESR_BAD_INDEX, count));
+}
+
+static int reads(const char *words, uint8_t refusal, uint64_t value) {
+    esr_number number = esr_parse_number((const uint8_t *)words, length_of(words));
+    return number.refusal == refusal && number.carried == 0 && number.value == value;
+}
+
+static void check_numbers(void) {
+    HOLDS(reads("0x+f", ESR_ACCEPTED, 15));
+    HOLDS(reads("18446744073709551615", ESR_ACCEPTED, 0xFFFFFFFFFFFFFFFF));
+    HOLDS(reads("0x0123456789abCDEF", ESR_ACCEPTED, 0x0123456789ABCDEF));
+    HOLDS(reads("", ESR_EMPTY, 0));
+    HOLDS(reads("0x", ESR_EMPTY, 0));
+    HOLDS(reads("0X1f", ESR_INVALID_DIGIT, 0));
+    HOLDS(reads("+", ESR_INVALID_DIGIT, 0));
+    HOLDS(reads("18446744073709551616x", ESR_POS_OVERFLOW, 0));
+}
+
+static uint8_t block[] = {0x00, 0x0B, 0x01, 0x12, 0x34, 0x01, 0x23, 0x45, 0x67, 0x89, 0xAB, 0xCD, 0xEF, 0x55};
+
+static int refuses(size_t length, uint8_t refusal) {
+    esr_entry entry = esr_read_entry(block, length);
+    return entry.refusal == refusal && entry.carried == 0 && entry.esr == 0 && entry.sequence == 0 && entry.body == 0 && entry.body_length == 0;
+}
+
+static int refuses_with(size_t slot, uint8_t byte, uint8_t refusal) {
+    uint8_t was = block[slot];
+    block[slot] = byte;
+    int fact = refuses(sizeof block, refusal);
+    block[slot] = was;
+    return fact;
+}
+
+static void check_entries(void) {
+    for (size_t length = 13; length <= sizeof block; length++) {
+        esr_entry entry = esr_read_entry(block, length);
+        HOLDS(entry.refusal == ESR_ACCEPTED && entry.carried == 0);
+        HOLDS(entry.esr == 0x0123456789ABCDEF && entry.sequence == 0x1234);
+        HOLDS(entry.body == 2 && entry.body_length == 11);
+    }
+    for (size_t length = 0; length < 13; length++) {
+        HOLDS(refuses(length, ESR_SHORT_ENTRY));
+    }
+    HOLDS(refuses_with(1, 0, ESR_BAD_LENGTH));
+    HOLDS(refuses_with(1, 12, ESR_BAD_LENGTH));
+    HOLDS(refuses_with(1, 13, ESR_SHORT_ENTRY));
+    HOLDS(refuses_with(0, 0xFF, ESR_SHORT_ENTRY));
+    HOLDS(refuses_with(2, 2, ESR_BAD_VERSION));
+}
+
+/* The stack below a call is painted, and what is no longer paint afterwards was used; the frame of the small function that makes the call
+   counts too. This file is compiled without a red zone, so that nothing of its own lies there. */
+#define PAINTED 65536
+
+static void *volatile sink;
+static uint64_t asked;
+static uint64_t beside;
+static writer writing;
+
+static void call_decode(void) {
+    static esr_filled filled;
+    filled = esr_decode(asked, slots.records, ROOM);
+    sink = &filled;
+}
+
+static void call_writer(void) {
+    static esr_filled filled;
+    filled = writing(asked, beside, text, BYTES);
+    sink = &filled;
+}
+
+static void call_parse_number(void) {
+    static esr_number number;
+    number = esr_parse_number((const uint8_t *)"0x0123456789abcdef", (size_t)asked % 19);
+    sink = &number;
+}
+
+static void call_read_entry(void) {
+    static esr_entry entry;
+    entry = esr_read_entry(block, (size_t)asked % (sizeof block + 1));
+    sink = &entry;
+}
+
+__attribute__((noinline)) static size_t stack_of(void (*call)(void)) {
+    volatile uint8_t *top;
+    __asm__ volatile("mov %%rsp, %0" : "=r"(top));
+    for (size_t i = 1; i <= PAINTED; i++) {
+        top[-(ptrdiff_t)i] = SENTINEL;
+    }
+    call();
+    size_t deepest = PAINTED;
+    while (0 < deepest && top[-(ptrdiff_t)deepest] == SENTINEL) {
+        deepest--;
+    }
+    return deepest;
+}
+
+static void measure(const char *name, void (*call)(void), uint64_t (*value)(size_t), size_t count) {
+    size_t deepest = 0;
+    for (size_t i = 0; i < count; i++) {
+        asked = value(i);
+        beside = i % ESR_RECORDS_MAX;
+        size_t used = stack_of(call);
+        deepest = deepest < used ? used : deepest;
+    }
+    say("stack ");
+    say(name);
+    say(" ");
+    say_number(deepest, 10);
+    say("\n");
+}
+
+static void measure_writer(const char *name, writer write, uint64_t (*value)(size_t), size_t count) {
+    writing = write;
+    measure(name, call_writer, value, count);
+}
+
+/* Every class, with ISS at 0 and at some of the marked values' bits. */
+static uint64_t syndrome(size_t i) {
+    return (uint64_t)(i % 64) << 26 | (values[i / 64].esr & 0x1FFFFFF);
+}
+
+static uint64_t counted(size_t i) {
+    return i;
+}
+
+int main(void) {
+    size_t marked_values = sizeof values / sizeof values[0];
+    for (size_t i = 0; i < marked_values; i++) {
+        check_lengths(i);
+        check_listings(i);
+    }
+    check_members();
+    check_listed();
+    check_texts();
+    check_value_strings();
+    check_messages();
+    check_numbers();
+    check_entries();
+    if (failures != 0) {
+        return 1;
+    }
+    say("checks ");
+    say_number(checks, 10);
+    say("\n");
+    measure("esr_decode", call_decode, syndrome, 64 * marked_values);
+    measure_writer("esr_text", write_text, counted, 1024);
+    measure_writer("esr_listing", write_listing, syndrome, 64 * marked_values);
+    measure_writer("esr_record_line", write_record_line, syndrome, 64 * marked_values);
+    measure_writer("esr_value_string", esr_value_string, counted, 66);
+    measure_writer("esr_value_binary_string", esr_value_binary_string, counted, 66);
+    measure_writer("esr_message", esr_message, counted, 9);
+    measure("esr_parse_number", call_parse_number, counted, 19);
+    measure("esr_read_entry", call_read_entry, counted, sizeof block + 1);
+    return 0;
+}
