@@ -1,4 +1,4 @@
--- What a lent pool and lent starts give for a code: its offset is in range, and of the project's own pool the part is the text.
+-- What a lent pool and lent starts give for a code: its start is in range, and of the project's own pool the part is the text.
 use mathlib.Core.Path.{_≡_, refl, sym, ap, _∙_}
 use mathlib.Core.Bool.{Bool, true, false, cond}
 use mathlib.Core.List.{List, [], _∷_}
@@ -47,7 +47,7 @@ no-bytes : (l : List ℕ) → length l ≡ 0 → l ≡ []
 no-bytes [] h = refl
 no-bytes (x ∷ xs) h = absurd (omega arith)
 
--- of the project's own pool and offsets the part is the text; where it would not lie in the pool, the text is empty
+-- of the project's own pool and starts the part is the text; where it would not lie in the pool, the text is empty
 pub lent-text : {lent starting : List ℕ} (code : ℕ) → Lent lent starting → partIn lent starting code ≡ bytesAt code
 unfolding partIn
 lent-text {lent} {starting} code own = by-test (leb (from + n) (length lent)) refl

@@ -1,4 +1,4 @@
--- A chain of appenders, and a loop that writes, leave one text after: both are runs of stores, one after the other.
+-- A chain of appenders, and a loop that writes, leave one text: both are runs of stores, one after the other.
 use mathlib.Core.Path.{_≡_, refl, sym, ap, _∙_}
 use mathlib.Core.List.{List, [], _∷_, _++_}
 use Prim.Native.Nat.{ℕ, suc, _+_, _<_}

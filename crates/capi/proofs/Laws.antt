@@ -67,15 +67,15 @@ filled-requested o before a e =
 -- The records of an answer.
 
 -- the refusal of the value, or its records
-module _ (esr : ℕ) {a : Answer} {number : ℕ} (is : a ≡ answerOf esr) (told : number ≡ refusalNumber (a .refusal)) (before : List (List ℕ)) where
+module _ (esr : ℕ) {a : Answer} {number : ℕ} (is : a ≡ answerOf esr) (numbered : number ≡ refusalNumber (a .refusal)) (before : List (List ℕ)) where
   pub decode-refused : {r : Filled} → (number ≡ 0 → ⊥) → r ≡ filledOf (a .refusal) 0 → (r, before) ≡ decoding esr before
   unfolding decoding
   decode-refused h e =
-      ap (λ (x : Filled). (x, before)) e ∙ rw (← is) (rw (ne-eqb (refusalNumber (a .refusal)) 0 (λ z. h (told ∙ z))) refl)
+      ap (λ (x : Filled). (x, before)) e ∙ rw (← is) (rw (ne-eqb (refusalNumber (a .refusal)) 0 (λ z. h (numbered ∙ z))) refl)
 
   pub decode-read : number ≡ 0 → filling (allWords (a .records)) before ≡ decoding esr before
   unfolding decoding
-  decode-read h = rw (← is) (rw (eq-eqb (refusalNumber (a .refusal)) 0 (sym told ∙ h)) refl)
+  decode-read h = rw (← is) (rw (eq-eqb (refusalNumber (a .refusal)) 0 (sym numbered ∙ h)) refl)
 
 -- a record's slot among those of all records of a set
 pub slot-at : (s : Records) (i : ℕ) → i < s .count

@@ -1,4 +1,4 @@
--- What C is told: a refusal as 01's number of it and what it carries, and the numbers of an answer beside them.
+-- What C gets: a refusal as 01's number of it and what it carries, and the numbers of an answer beside them.
 use Prim.Native.Nat.{ℕ}
 use mathlib.Core.List.{List}
 use lib.ListN.{length}
@@ -22,7 +22,7 @@ numberAnswer s =
       refusal = refusalNumber (numberOf s .refusal);
     }
 
--- the slot of the body is counted from the start of the block
+-- the offset of the body is counted from the start of the block
 unfoldable pub entryAnswer : List ℕ → EntryAnswer
 entryAnswer s =
     record {

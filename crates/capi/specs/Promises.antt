@@ -42,6 +42,6 @@ ListingFilled (esr, before) r = r ≡ filledWith (listingOf esr) before
 abbrev pub NumberAnswered : List ℕ → NumberAnswer → Type 0
 NumberAnswered s r = r ≡ numberAnswer s
 
--- the numbers of an entry, and the slot of its body in the block
+-- the numbers of an entry, and the offset of its body in the block
 abbrev pub EntryAnswered : List ℕ → EntryAnswer → Type 0
 EntryAnswered s r = r ≡ entryAnswer s

@@ -32,7 +32,7 @@ pub struct NumberAnswer {
     pub refusal: u8,
 }
 
-// The body is told by its slot in the caller's own block: where it starts, and how many bytes it has.
+// The body is given by its offset in the caller's own block: where it starts, and how many bytes it has.
 #[repr(C)]
 pub struct EntryAnswer {
     pub esr: u64,

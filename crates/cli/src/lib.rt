@@ -43,7 +43,7 @@ struct Standing {
 // An entry is decided by its length field, two bytes, and the 65,535 that may follow.
 const BLOCK: usize = 65537;
 
-// A line is told by its number among the lines, where there are more than one; 0 is the only one.
+// A line is named by its number among the lines, where there are more than one; 0 is the only one.
 fn put_reply(kind: LineKind, buf: &mut [u8], at: usize, line: u64, number: Number) -> usize {
     match kind {
         LineKind::Number => return put_number_reply(buf, at, number),
@@ -162,7 +162,7 @@ fn answer_last(kind: LineKind, standing: Standing, buf: &mut [u8]) -> usize
     output::flush(buf, end)
 }
 
-// How many bytes were read: 0 at the end of the input, and where it cannot be read, which is told.
+// How many bytes were read: 0 at the end of the input, and where it cannot be read, which is reported.
 fn read_part(part: &mut [u8]) -> usize
     ensures { λ r. ⌜ r ≤ length (now (part .exit)) ⌝ }
 {
@@ -206,7 +206,7 @@ fn room() -> [u8; BLOCK]
     [0; BLOCK]
 }
 
-// Reads until the block is full or the input ends. What ended it is asked once more, so that an input that cannot be read is told.
+// Reads until the block is full or the input ends. What ended it is asked once more, so that an input that cannot be read is reported.
 fn read_block(block: &mut [u8]) -> usize
     ensures { λ r. ⌜ r ≤ length (now (block .exit)) ⌝ }
 {

@@ -135,9 +135,9 @@ module _ (s : List ℕ) (bad : reasonNumber (judged s) ≡ 0 → ⊥) where
   body-refused = simp (ne-eqb _ _ bad)
 
 -- a refusal's number tells whether there is one
-module _ {f g : Reason} {n : ℕ} (e : f ≡ g) (told : n ≡ reasonNumber f) where
+module _ {f g : Reason} {n : ℕ} (e : f ≡ g) (numbered : n ≡ reasonNumber f) where
   pub number-sound : n ≡ 0 → reasonNumber g ≡ 0
-  number-sound z = sym (ap reasonNumber e) ∙ sym told ∙ z
+  number-sound z = sym (ap reasonNumber e) ∙ sym numbered ∙ z
 
   pub number-refused : (n ≡ 0 → ⊥) → reasonNumber g ≡ 0 → ⊥
-  number-refused bad z = bad (told ∙ ap reasonNumber e ∙ z)
+  number-refused bad z = bad (numbered ∙ ap reasonNumber e ∙ z)

@@ -11,7 +11,7 @@ bytesAfter n (b ∷ bs) = bytesAfter (n * 256 + b) bs
 abbrev pub bigEndian : List ℕ → ℕ
 bigEndian s = bytesAfter 0 s
 
--- some bytes of a block, from a offset on
+-- some bytes of a block, from an offset on
 abbrev pub bytesAt : ℕ → ℕ → List ℕ → List ℕ
 bytesAt offset count s = take count (drop offset s)
 

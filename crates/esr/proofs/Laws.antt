@@ -111,7 +111,7 @@ module _ (t : Table) (esr iss : ℕ) (f : Refusal) (is : f ≡ failureFor t iss)
   unfolding tableAnswer
   read-passes h = rw (← is) (rw (eq-eqb (refusalNumber f) 0 h) refl)
 
--- "acceptance of a class equals a filled index": the class table's number is counted as the class is looked up, among layouts numbered from n.
+-- "acceptance of a class equals a filled place": the class table's number is counted as the class is looked up, among layouts numbered from n.
 data LookedUp (esr n : ℕ) (ss : List Served) : Type 0 where
   missing : numberIn n ss (classOf esr) ≡ empty → classAnswer ss esr ≡ refused (carrying InvalidEc (classOf esr)) → LookedUp esr n ss
   found : (k : ℕ) → k < length ss → numberIn n ss (classOf esr) ≡ n + k → classAnswer ss esr ≡ tableAnswer (getD (tablesOf ss) k undivided) esr (issOf esr)
@@ -137,7 +137,7 @@ nineteen : length layouts ≡ 19
 unfolding layouts
 nineteen = refl
 
--- A class is served exactly if its index is filled.
+-- A class is served exactly if its slot of the class table is filled.
 
 number-less : (n c : ℕ) (s : Served) (ss : List Served) → List·Memᴰ s ss → T (member c (s .classes)) → numberIn n ss c < n + length ss
 number-less n c s (x ∷ xs) (List·Memᴰ·head e) t =
@@ -214,7 +214,7 @@ module _ (P : Answer → Type 0) (bad : (f : Refusal) → P (refused f)) where
   answer-has good esr =
       either (meets esr reserved) (classAnswer layouts esr) (refused (refusalOf esr reserved)) (class-has layouts good esr) (bad (refusalOf esr reserved))
 
--- Every set that the decoder gives has room for what it counts: a set is a list and the empty indices after it, and its indices are 19.
+-- Every set that the decoder gives has room for what it counts: a set is a list and the empty slots after it, and its slots are 19.
 
 abbrev pub Roomy : Answer → Type 0
 Roomy a = length (a .records .items) ≡ setRoom → a .records .count ≤ setRoom

@@ -1,4 +1,4 @@
--- The arrays of a layout hold the rows that apply and, at its indices, the rows to check: a index is counted as the row is looked for.
+-- The arrays of a layout hold the rows that apply and, at its indices, the rows to check: an index is counted as the row is looked for.
 use mathlib.Core.Path.{_≡_, refl, sym, ap, ap₂, _∙_, subst}
 use mathlib.Core.Bool.{Bool, true, false, cond}
 use mathlib.Core.List.{List, [], _∷_, _++_, List·Memᴰ, List·Memᴰ·head, List·Memᴰ·tail}

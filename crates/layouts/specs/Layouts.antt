@@ -22,7 +22,7 @@ abbrev pub indicesOf : List Row → List ℕ → List ℕ
 indicesOf rows [] = []
 indicesOf rows (s ∷ ss) = indexOf 0 rows s ++ indicesOf rows ss
 
--- a index after the rows holds a row of no name, and one after the checks 0
+-- past the rows stands a row of no name, and past the checks 0
 abbrev pub layoutRoom : ℕ
 layoutRoom = 14
 

@@ -1,4 +1,4 @@
-// The numbers of the layouts: their indices in the list of specs/Tables.antt.
+// The numbers of the layouts: their indices in the list of crates/tables/specs/Tables.antt.
 pub const RES0: u8 = 0;
 
 pub const WF: u8 = 1;

@@ -5,7 +5,7 @@ use records::kinds as k;
 use texts::names as n;
 use texts::rules as r;
 
-// What stands in a index of a layout that has no row.
+// What stands where a layout has no row.
 pub(crate) const PAD: Row = Row { start: 0, width: 0, name: n::NONE,      long: n::NONE,           rule: r::PLAIN,         kind: k::FREE };
 
 pub(crate) const CV: Row = Row { start: 24, width: 1, name: n::CV,        long: n::CV_LONG,        rule: r::CV,            kind: k::FREE };

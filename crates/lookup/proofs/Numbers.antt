@@ -1,4 +1,4 @@
--- A rule in numbers says of each value what the rule says: the bits are read back one by one, below 64 and past it.
+-- A rule in numbers describes the values that the rule describes: the bits are read back one by one, below 64 and past it.
 use mathlib.Core.Path.{_≡_, refl, sym, ap, ap₂, _∙_, subst}
 use mathlib.Core.Bool.{Bool, true, false, cond, _&&_}
 use mathlib.Core.List.{List, [], _∷_}
@@ -43,11 +43,11 @@ eqb-bit : (b : Bool) → eqb (bit b) 1 ≡ b
 eqb-bit true = refl
 eqb-bit false = refl
 
--- a value that a rule says something of is below 64
+-- a value that a rule describes is below 64
 pub describes-small : (rule value : ℕ) → T (describes rule value) → value < 64
 describes-small rule value t = omega (arith, describes-below rule value t, codes-small rule)
 
--- the bits of a rule say which values it says something of
+-- the bits of a rule say which values it describes
 pub bit-in : (rule value : ℕ) → bitIn (numbersOf rule .0) value ≡ describes rule value
 unfolding bitIn numbersOf
 bit-in rule value = by-test (ltb value 64) refl (describes rule value) refl
@@ -87,7 +87,7 @@ one-bit n a b =
     (eqb→eq 3 (numbersOf n .0) (both-left (eqb 3 (numbersOf n .0)) _ t))
     (eqb→eq (128 + 2 * (n - 1)) (numbersOf n .1) (both-right (eqb 3 (numbersOf n .0)) _ t))
 
--- a number past the last rule says nothing
+-- a number past the last rule describes nothing
 no-bits : (f : ℕ → Bool) → ((v : ℕ) → f v ≡ false) → (k n : ℕ) → bitsOf f k n ≡ 0
 unfolding bitsOf
 no-bits f h k zero = refl

@@ -9,7 +9,7 @@ abbrev pub bit : Bool → ℕ
 bit true = 1
 bit false = 0
 
--- the bits f k, f (k + 1), .. of n places, the first of them lowest
+-- the bits f k, f (k + 1), .., n of them, the first lowest
 unfoldable pub bitsOf : (ℕ → Bool) → ℕ → ℕ → ℕ
 bitsOf f k zero = 0
 bitsOf f k (suc n) = bitsOf f (suc k) n * 2 + bit (f k)

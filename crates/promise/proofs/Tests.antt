@@ -1,4 +1,4 @@
--- From a test that antt computes to the fact at each entry: what holds of a whole list by computing holds at every place of it.
+-- From a test that antt computes to the fact at each entry: what holds of a whole list by computing holds at every index of it.
 use mathlib.Core.Path.{_≡_, refl, sym, ap, subst, _∙_}
 use mathlib.Core.Bool.{Bool, true, false, cond, _&&_}
 use mathlib.Core.List.{List, [], _∷_, List·Memᴰ, List·Memᴰ·head, List·Memᴰ·tail}
@@ -29,7 +29,7 @@ true-is false t = absurd t
 pub is-true : {b : Bool} → b ≡ true → T b
 is-true e = subst T (sym e) tt
 
--- a test that passes at each entry of a list and its place, counted from i
+-- a test that passes at each entry of a list and its index, counted from i
 abbrev pub every : {A : Type 0} → (ℕ → A → Bool) → ℕ → List A → Bool
 every f i [] = true
 every f i (x ∷ xs) = f i x && every f (suc i) xs

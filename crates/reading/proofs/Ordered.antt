@@ -131,16 +131,16 @@ module _ (rows : List Row) (t : T (tiled rows)) where
   checked-row row m k [] h = absurd h
   checked-row row m k (s ∷ ss) h = by (eqb (row .start) s) refl h (checked-row row m k ss)
     where
-      behind : (xs : List Row) → List·Memᴰ row (inOrder rows ss) → List·Memᴰ row (xs ++ inOrder rows ss)
-      behind [] n = n
-      behind (x ∷ xs) n = List·Memᴰ·tail (behind xs n)
+      later : (xs : List Row) → List·Memᴰ row (inOrder rows ss) → List·Memᴰ row (xs ++ inOrder rows ss)
+      later [] n = n
+      later (x ∷ xs) n = List·Memᴰ·tail (later xs n)
 
       by : (b : Bool) → eqb (row .start) s ≡ b → T (cond b true (member (row .start) ss)) → (T (member (row .start) ss) → List·Memᴰ row (inOrder rows ss))
           → List·Memᴰ row (checkAt rows s ++ inOrder rows ss)
       by true e h rest =
           subst (λ (xs : List Row). List·Memᴰ row (xs ++ inOrder rows ss))
           (sym (check-at s row (test-isCheckAt rows s row m (both-intro (eqb (row .start) s) (isCheck (rowKind row)) (is-true e) k)))) (List·Memᴰ·head refl)
-      by false e h rest = behind (checkAt rows s) (rest h)
+      by false e h rest = later (checkAt rows s) (rest h)
 
 -- what is checked is one of the rows
 pub checked-among : (rows : List Row) (ss : List ℕ) (row : Row) → List·Memᴰ row (inOrder rows ss) → List·Memᴰ row rows

@@ -1,4 +1,4 @@
-// A value given back from its records: the leaves shifted to their places and added up.
+// A value given back from its records: the leaves shifted back and added up.
 ghost use Prim.Native.Nat.{_≤_, _%_, _^_};
 ghost use Rattle.reading.specs.Leaves.{shiftedBack, addedUp};
 ghost use Rattle.reading.specs.Promises.{SumBack};
@@ -10,7 +10,7 @@ ghost use mathlib.Core.Path.{_≡_};
 use records::Record;
 use records::Records;
 
-// A field in its place; one that does not lie within 64 bits adds nothing.
+// A field shifted back; one that does not lie within 64 bits adds nothing.
 fn shifted_back(field: Record) -> u64
     ensures { λ r. ⌜ r ≡ shiftedBack field % 2 ^ 64 ⌝ }
 {
@@ -26,7 +26,7 @@ fn shifted_back(field: Record) -> u64
     field.value << field.start
 }
 
-// The fields from one place to another, from high bits to low.
+// The fields from one index to another, from high bits to low.
 fn sum_of(records: Records, from: usize, to: usize) -> u64
     requires { ⌜ (from ≤ to) × (to ≤ setRoom) ⌝ }
     ensures { λ r. ⌜ r ≡ addedUp (drop from (take to (records .items))) % 2 ^ 64 ⌝ }

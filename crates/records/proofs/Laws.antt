@@ -88,7 +88,7 @@ unfolding pushedAll
 pushed-last s [] x = refl
 pushed-last s (y ∷ ys) x = pushed-last (pushed s y) ys x
 
--- one record written in its place, and counted, is one record more
+-- one record written in its slot, and counted, is one record more
 pub written : (s : Records) (x : Record) → s .count < setRoom → record { items = set (s .items) (s .count) x; count = s .count + 1 } ≡ pushed s x
 unfolding pushed
 written s x h = rw (lt-ltb (s .count) setRoom h) refl

@@ -20,7 +20,7 @@ pub data Kind : Type 0 where
 abbrev pub coding : List Reason
 coding = InvalidEc ∷ InvalidFsc ∷ InvalidSet ∷ InvalidAet ∷ InvalidAm ∷ InvalidLd64bIss ∷ Unreached ∷ []
 
--- the kinds of 01's rows; a row names its kind by its place in this list
+-- the kinds of 01's rows; a row names its kind by its index in this list
 abbrev pub kinds : List Kind
 kinds = Free ∷ Unchecked ∷ Checked ∷ map Coded coding
 

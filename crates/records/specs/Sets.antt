@@ -1,4 +1,4 @@
--- Sets of records: at most 19, in order, with the empty record in the places after them.
+-- Sets of records: at most 19, in order, with the empty record in the slots after them.
 use Prim.Native.Nat.{ℕ, _-_}
 use mathlib.Core.Bool.{cond}
 use mathlib.Core.List.{List, _++_}

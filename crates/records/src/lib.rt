@@ -66,7 +66,7 @@ pub struct Record {
 }
 
 impl Row {
-    // The one place where a record is made.
+    // Records are made here alone.
     pub fn get(self, v: u64) -> Record
         ensures { λ r. ⌜ Got (self, v) r ⌝ }
     {
@@ -108,7 +108,7 @@ impl Row {
     }
 }
 
-// What stands in a place of a set that holds no record.
+// What stands in a slot of a set that holds no record.
 fn no_record() -> Record
     ensures { λ r. ⌜ r ≡ noRecord ⌝ }
 {
@@ -122,7 +122,7 @@ fn no_record() -> Record
     }
 }
 
-// Records in order, and places after them that hold the empty record.
+// Records in order, and slots after them that hold the empty record.
 pub struct Records {
     pub items: [Record; Records::MAX],
     pub count: usize,

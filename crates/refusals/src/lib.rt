@@ -24,7 +24,7 @@ pub enum Reason {
 }
 
 impl Reason {
-    // The one place where a reason is told from another.
+    // The only match on a reason.
     pub fn number(self) -> u8
         ensures { λ r. ⌜ Number self r ⌝ }
     {

@@ -45,8 +45,8 @@ listed esr =
     (listingFrom bytesAt 0 (listOf (answerOf esr .records)))
     (refusal (answerOf esr .refusal))
 
--- The line before it names the value, or where the line holds no number, the line by its place among the lines. The only line has no name; its
--- place is 0.
+-- The line before it names the value, or where the line holds no number, the line by its number among the lines. The only line has no name; its
+-- number is 0.
 unfoldable pub nameLine : ℕ → Number → List ℕ
 nameLine line n =
     cond (eqb line 0) [] (cond (passed (n .refusal)) (numberLine (bytes "> 0x") 16 (n .value)) (numberLine (bytes "> line ") 10 line))

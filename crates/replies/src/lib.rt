@@ -60,7 +60,7 @@ fn put_listed(buf: &mut [u8], at: usize, esr: u64) -> usize
     put_listing(buf, at, &pool, &starts, answer.records)
 }
 
-// A line that holds no number is named by its place among the lines, since its bytes are not kept.
+// A line that holds no number is named by its number among the lines, since its bytes are not kept.
 fn put_name(buf: &mut [u8], at: usize, line: u64, number: Number) -> usize
     ensures { λ r. ⌜ Appends (nameLine line number) (at, now (buf .entry)) (r, now (buf .exit)) ⌝ }
 {

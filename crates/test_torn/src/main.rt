@@ -89,7 +89,7 @@ impl Tally {
         self
     }
 
-    // Each cut from a offset on: what lies from there to before another was not written.
+    // Each cut from an offset on: what lies from there to before another was not written.
     fn with_cuts(self, block: &[u8], from: usize, to: usize) -> Self {
         let mut tally = self;
         let mut start = from;

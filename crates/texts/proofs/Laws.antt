@@ -70,7 +70,7 @@ end-at : (end x : ℕ) (ys : List ℕ) → T (risesTo end x ys) → getD (x ∷ 
 end-at end x [] t = eqb→eq x end t
 end-at end x (y ∷ ys) t = end-at end y ys (both-right (leb x y) (risesTo end y ys) t)
 
--- no place is before the one before it, and the last is the pool's length
+-- no start is before the one before it, and the last is the pool's length
 pub starts-rise : (k : ℕ) → suc k < length starts → getD starts k 0 ≤ getD starts (suc k) 0
 starts-rise k h = rise-at (length pool) 0 starts rises (suc k) h
 
@@ -96,12 +96,12 @@ names-fit : T (leb (length names) nameRoom)
 unfolding names
 names-fit = tt
 
--- texts by rising value, each value with a place, no text empty
+-- texts by rising value, each value with a code, no text empty
 abbrev rising : ℕ → ℕ → List Text → Bool
 rising low codes [] = true
 rising low codes (t ∷ ts) = leb low (t .value) && (ltb (t .value) codes && (not (eqt (t .text) "") && rising (suc (t .value)) codes ts))
 
--- a rule's number is its place; its values rise and have places; a place is a bit of 64
+-- a rule's number is its index; its values rise and have codes; a code is a bit of 64
 abbrev soundRule : ℕ → Rule → Bool
 soundRule n r = eqb (r .number) n && (leb (r .codes) 64 && rising 0 (r .codes) (r .texts))
 
@@ -185,7 +185,7 @@ text-past-room k =
     ∙ ap (λ n. getD (front ++ described rules) (n + k) "") (sym long)
     ∙ getD-append-add front (described rules) k ""
 
--- a rule that says something is one of the list, and the value has a place
+-- a rule that describes something is one of the list, and the value has a code
 some-rule : (n v : ℕ) → T (describes n v) → n < length rules
 unfolding describes onList ruleAt
 some-rule n v t = by-test (ltb n (length rules)) refl
@@ -199,7 +199,7 @@ sound-at : (n : ℕ) → n < length rules → T (soundRule n (ruleAt n))
 unfolding ruleAt
 sound-at n h = every-at soundRule rules plain rules-sound n h
 
--- no rule has more than 64 places
+-- no rule has more than 64 codes
 pub codes-small : (n : ℕ) → ruleAt n .codes ≤ 64
 unfolding ruleAt
 codes-small n = by-test (ltb n (length rules)) refl
@@ -227,7 +227,7 @@ silent (x ∷ xs) v e = by-test (eqb v (x .value)) e (silent xs v)
     by-test true u rest = absurd (subst T u tt)
     by-test false u rest = rest u
 
--- the text at the code of what a rule says of a value is what it says; code 0, the empty text, where it says nothing
+-- the text at the code of a rule's description of a value is that description; code 0, the empty text, where there is none
 pub text-described : (rule value : ℕ) → textAt (textCode rule value) ≡ descriptionOf rule value
 unfolding textCode firstOf descriptionOf ruleAt describes textAt texts names
 text-described rule value = by-test (describes rule value) refl
@@ -240,7 +240,7 @@ text-described rule value = by-test (describes rule value) refl
         ∙ described-at rules rule value (some-rule rule value t) (describes-below rule value t)
     by-test false e = sym (silent (ruleAt rule .texts) value e)
 
--- Lent places of any length: a text that is not empty has its place, and the next, among them.
+-- Lent starts of any length: a text that is not empty has its start, and the next, among them.
 
 pub past-starts : (l : List ℕ) (k : ℕ) → length l ≤ k + 1 → lengthIn l k ≡ 0
 unfolding lengthIn

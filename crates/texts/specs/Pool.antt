@@ -25,7 +25,7 @@ onList (t ∷ ts) v = cond (eqb v (t .value)) true (onList ts v)
 unfoldable pub ruleAt : ℕ → Rule
 ruleAt n = getD rules n plain
 
--- what a rule says of a value, and whether it says anything
+-- how a rule describes a value, and whether it does
 unfoldable pub descriptionOf : ℕ → ℕ → String
 descriptionOf rule value = textIn (ruleAt rule .texts) value
 
@@ -53,7 +53,7 @@ texts = names ++ (replicate (nameRoom - length names) "" ++ described rules)
 unfoldable pub textAt : ℕ → String
 textAt code = getD texts code ""
 
--- the code of a name: its place among the names
+-- the code of a name: its index among the names
 unfoldable pub indexIn : ℕ → List String → String → ℕ
 indexIn n [] s = n
 indexIn n (t ∷ ts) s = cond (eqt s t) n (indexIn (suc n) ts s)
@@ -61,7 +61,7 @@ indexIn n (t ∷ ts) s = cond (eqt s t) n (indexIn (suc n) ts s)
 unfoldable pub code : String → ℕ
 code s = indexIn 0 names s
 
--- the code of what a rule says of a value: the rule's first code plus the value; 0 where it says nothing
+-- the code of a rule's description of a value: the rule's first code plus the value; 0 where there is none
 unfoldable pub codesOf : List Rule → ℕ
 codesOf [] = 0
 codesOf (r ∷ rs) = r .codes + codesOf rs

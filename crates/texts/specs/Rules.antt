@@ -12,7 +12,7 @@ infix 70 _means_
 abbrev pub _means_ : ℕ → String → Text
 v means s = record { value = v; text = s }
 
--- A rule's number, by which a row names it; how many values, from 0 on, have a place in the pool; its texts by rising value.
+-- A rule's number, by which a row names it; how many values, from 0 on, have a code; its texts by rising value.
 pub record Rule : Type 0 where
   pub number : ℕ
   pub codes : ℕ

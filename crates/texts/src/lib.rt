@@ -1,6 +1,6 @@
 // Every name, long name and text: one constant pool and its starts, and the codes by which the crates above speak of them.
 // A constant array is built anew by each function that indexes it, so a caller with more than one byte to read fetches the pool and the
-// places once and lends them.
+// starts once and lends them.
 ghost use Rattle.texts.specs.Promises.{Pool, Starts};
 
 pub mod names;

@@ -1,5 +1,5 @@
-// The names of fields, by their codes: their places in specs/Names.antt. A long name is the name's with _LONG; RES0, EA and ISS have other
-// long names in some places, or none.
+// The names of fields, by their codes: their indices in specs/Names.antt. A long name is the name's with _LONG; RES0, EA and ISS have other
+// long names in some rows, or none.
 pub const NONE: u8 = 0;
 pub const RES0: u8 = 1;
 pub const RES0_LONG: u8 = 2;

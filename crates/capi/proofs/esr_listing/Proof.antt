@@ -1,4 +1,4 @@
--- The answer of `listing::listing`, told; the buffer is what it left.
+-- The answer of `listing::listing`, in C's numbers; the buffer is what it left.
 use Rattle.capi.proofs.Laws.{filled-requested}
 use borrow.Author.Needs.{needs}
 use Rattle.capi.proofs.esr_listing.Statement.{statement}

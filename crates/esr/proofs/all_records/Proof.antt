@@ -25,8 +25,8 @@ five : (s : Records) (a b c d e : Record) → s ≡ recordsOf []
 unfolding recordsOf
 five s a b c d e is = ap (λ (x : Records). record { items = set (set (set (set (set (x .items) 0 a) 1 b) 2 c) 3 d) 4 e; count = 5 }) is
 
-behind : {x y : Record} {xs ys : List Record} → x ≡ y → xs ≡ ys → (x ∷ xs) ≡ (y ∷ ys)
-behind e f = ap₂ _∷_ e f
+cons : {x y : Record} {xs ys : List Record} → x ≡ y → xs ≡ ys → (x ∷ xs) ≡ (y ∷ ys)
+cons e f = ap₂ _∷_ e f
 
 abbrev topSet : ℕ → Layout → Records
 topSet esr layout = recordsOf (map (recordOf esr) (topRows (layout .rule)))
@@ -99,9 +99,9 @@ loop-holds c =
       five (g .before .empty .result) (g .get .result) (c .before .before .before .get2 .result) (c .before .before .get3 .result)
           (c .before .get4 .result) (c .get5 .result) (g .before .empty .ensures)
           ∙ ap recordsOf
-          (behind (g .get .ensures)
-          (behind (c .before .before .before .get2 .ensures)
-          (behind (c .before .before .get3 .ensures) (behind (c .before .get4 .ensures) (behind (c .get5 .ensures) refl))))),
+          (cons (g .get .ensures)
+          (cons (c .before .before .before .get2 .ensures)
+          (cons (c .before .before .get3 .ensures) (cons (c .before .get4 .ensures) (cons (c .get5 .ensures) refl))))),
     )
 
 cast-loop : tie.Need-cast-loop Inv-loop μ-loop

@@ -1,4 +1,4 @@
--- The length is the next place less this one; past the last place it is 0, and where the next is not after, the difference is 0.
+-- The length is the next start less this one; past the last start it is 0, and where the next is not after, the difference is 0.
 use mathlib.Core.Path.{sym}
 use native.Mathlib.Omega.{arith}
 use Rattle.texts.specs.Pool.{lengthIn}

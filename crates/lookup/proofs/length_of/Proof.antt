@@ -1,4 +1,4 @@
--- In the pool's own places the length is the text's.
+-- By the pool's own starts the length is the text's.
 use mathlib.Core.Path.{ap, _∙_}
 use Rattle.texts.specs.Pool.{lengthIn}
 use Rattle.texts.proofs.Laws.{length-at}

@@ -12,8 +12,8 @@ use borrow.Author.Needs.{needs}
 use Rattle.lookup.proofs.text_code.Statement.{statement}
 use Rattle.lookup.proofs.text_code.Tie as tie
 
-told : (rule value : ℕ) (s : Descriptions) (b t : Bool) → s ≡ numbersOf rule → b ≡ bitIn (s .0) value → b ≡ t → describes rule value ≡ t
-told rule value s b t is has tested = sym (bit-in rule value) ∙ ap (λ (x : Descriptions). bitIn (x .0) value) (sym is) ∙ sym has ∙ tested
+described : (rule value : ℕ) (s : Descriptions) (b t : Bool) → s ≡ numbersOf rule → b ≡ bitIn (s .0) value → b ≡ t → describes rule value ≡ t
+described rule value s b t is has tested = sym (bit-in rule value) ∙ ap (λ (x : Descriptions). bitIn (x .0) value) (sym is) ∙ sym has ∙ tested
 
 starts : (rule : ℕ) (s : Descriptions) → s ≡ numbersOf rule → s .1 ≡ firstOf rule
 unfolding numbersOf
@@ -28,14 +28,14 @@ has-requires c κs = search needs
 cast-result : tie.Need-cast-result
 cast-result c =
     let value : ℕ = c .before .before .before .args .value in
-    let small : value < 64 = describes-small (c .before .before .before .args .rule) value (is-true (told _ value _ _ true (c .before .before .in-numbers .ensures) (c .before .has .ensures) (c .if1 .taken))) in
+    let small : value < 64 = describes-small (c .before .before .before .args .rule) value (is-true (described _ value _ _ true (c .before .before .in-numbers .ensures) (c .before .has .ensures) (c .if1 .taken))) in
     omega arith
 
 add-result : tie.Need-add-result
 add-result c =
     let rule : ℕ = c .before .before .before .before .args .rule in
     let value : ℕ = c .before .before .before .before .args .value in
-    let small : value < 64 = describes-small rule value (is-true (told rule value _ _ true (c .before .before .before .in-numbers .ensures) (c .before .before .has .ensures) (c .before .if1 .taken))) in
+    let small : value < 64 = describes-small rule value (is-true (described rule value _ _ true (c .before .before .before .in-numbers .ensures) (c .before .before .has .ensures) (c .before .if1 .taken))) in
     omega (arith, starts rule _ (c .before .before .before .in-numbers .ensures), first-le rule)
 
 returns : tie.Need-returns
@@ -44,14 +44,14 @@ returns c =
     let rule : ℕ = c .before .before .before .before .args .rule in
     let value : ℕ = c .before .before .before .before .args .value in
     ap (λ (n : ℕ). n + value) (starts rule _ (c .before .before .before .in-numbers .ensures))
-    ∙ ap (λ (t : Bool). cond t (firstOf rule + value) 0) (sym (told rule value _ _ true (c .before .before .before .in-numbers .ensures) (c .before .before .has .ensures) (c .before .if1 .taken)))
+    ∙ ap (λ (t : Bool). cond t (firstOf rule + value) 0) (sym (described rule value _ _ true (c .before .before .before .in-numbers .ensures) (c .before .before .has .ensures) (c .before .if1 .taken)))
 
 returns-2 : tie.Need-returns-2
 unfolding textCode
 returns-2 c =
     let rule : ℕ = c .before .before .before .args .rule in
     let value : ℕ = c .before .before .before .args .value in
-    ap (λ (t : Bool). cond t (firstOf rule + value) 0) (sym (told rule value _ _ false (c .before .before .in-numbers .ensures) (c .before .has .ensures) (c .if1 .left)))
+    ap (λ (t : Bool). cond t (firstOf rule + value) 0) (sym (described rule value _ _ false (c .before .before .in-numbers .ensures) (c .before .has .ensures) (c .if1 .left)))
 
 pub text-code-spec : {M : Type 1} → statement M
 text-code-spec =

@@ -1,4 +1,4 @@
--- Each arm is a place of the list of kinds; the last knows that the number is none of them.
+-- Each arm is an index of the list of kinds; the last knows that the number is none of them.
 use mathlib.Core.Path.{_≡_, sym, ap}
 use Prim.Native.Nat.{ℕ}
 use native.Mathlib.Omega.{arith}

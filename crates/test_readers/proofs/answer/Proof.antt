@@ -1,4 +1,4 @@
--- The place stays within the requests, and what is left of them falls.
+-- The offset stays within the requests, and what is left of them falls.
 use Prim.Native.Nat.{_≤_, _-_}
 use mathlib.Core.Path.{_≡_}
 use lib.ListN.{length}

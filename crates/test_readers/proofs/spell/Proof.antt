@@ -1,4 +1,4 @@
--- The place goes down from the length of the text, which stays.
+-- The offset goes down from the length of the text, which stays.
 use Prim.Native.Nat.{_≤_}
 use mathlib.Core.Path.{_≡_}
 use lib.ListN.{length}

@@ -1,4 +1,4 @@
--- The constant is the places of the strings: both are computed.
+-- The constant is where the strings start: both are computed.
 use mathlib.Core.Path.{refl}
 use Rattle.texts.specs.Names.{names}
 use Rattle.texts.specs.Pool.{starts, startsFrom, bytes, texts, described, byValue, textIn}
