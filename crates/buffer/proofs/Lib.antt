@@ -1,4 +1,5 @@
 pub mod Writing
 pub mod Appending
+pub mod InOrder
 pub mod Lent
 pub mod Decides

@@ -1,3 +1,4 @@
 pub mod Appending
+pub mod InOrder
 pub mod Lent
 pub mod Promises

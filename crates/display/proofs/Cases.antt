@@ -1,16 +1,17 @@
 -- The lines by cases, and how long each is; of the project's own pool they are the definition's.
-use mathlib.Core.Path.{_≡_, refl, ap₂}
-use mathlib.Core.List.{List, [], _∷_, _++_}
-use Prim.Native.Nat.{ℕ, suc, _+_, _≤_, _<_}
+use mathlib.Core.Path.{_≡_, refl}
+use mathlib.Core.List.{List, [], _++_}
+use Prim.Native.Nat.{ℕ, _+_, _≤_, _<_}
 use native.Mathlib.Omega.{arith}
 use borrow.Author.Tests.{eq-eqb, ne-eqb, lt-ltb, le-ltb}
 use lib.ListN.{length, length-append}
 use Rattle.texts.specs.Pool.{bytes, bytesAt}
 use Rattle.buffer.specs.Lent.{Lent, partIn}
+use Rattle.buffer.proofs.InOrder.{each-same}
 use Rattle.buffer.proofs.Lent.{lent-text}
 use Rattle.records.specs.declared.Record.{Record}
 use Rattle.strings.specs.Fields.{fieldText}
-use Rattle.display.specs.Listings.{indentAt, lineText, textLine, recordLines, listingFrom}
+use Rattle.display.specs.Listings.{indentAt, lineText, textLine, recordLines, listing}
 
 -- how long the fixed words are
 words : (length (bytes ": ") ≡ 2) × (length (bytes "# ") ≡ 2) × (length (bytes "\n") ≡ 1)
@@ -58,7 +59,5 @@ module _ {lent starting : List ℕ} (own : Lent lent starting) where
   unfolding recordLines textLine
   lines-lent index r = rw (line-lent r, lent-text (r .text) own)
 
-  pub listing-lent : (index : ℕ) (rs : List Record) → listingFrom (partIn lent starting) index rs ≡ listingFrom bytesAt index rs
-  unfolding listingFrom
-  listing-lent index [] = refl
-  listing-lent index (r ∷ rs) = ap₂ (λ (a b : List ℕ). a ++ b) (lines-lent index r) (listing-lent (suc index) rs)
+  pub listing-lent : (rs : List Record) → listing (partIn lent starting) rs ≡ listing bytesAt rs
+  listing-lent rs = each-same lines-lent 0 rs

@@ -1,3 +1,2 @@
 pub mod Cases
-pub mod Growing
 pub mod Decides

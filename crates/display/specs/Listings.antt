@@ -1,9 +1,10 @@
 -- "Listing: a record's line, then "# " and its text if it has one, each ended by one line feed; ISS's own are indented two spaces, text
 -- lines too." The text of a code comes from a lookup that is a parameter.
-use Prim.Native.Nat.{ℕ, suc}
+use Prim.Native.Nat.{ℕ}
 use mathlib.Core.Bool.{cond}
-use mathlib.Core.List.{List, [], _∷_, _++_}
+use mathlib.Core.List.{List, [], _++_}
 use lib.Dec.{eqb, ltb}
+use Rattle.buffer.specs.InOrder.{inOrder}
 use Rattle.texts.specs.Pool.{bytes}
 use Rattle.records.specs.declared.Record.{Record}
 use Rattle.strings.specs.Fields.{fieldText}
@@ -23,7 +24,6 @@ textLine lookup index code = cond (eqb code 0) [] (indentAt index ++ (bytes "# "
 unfoldable pub recordLines : (ℕ → List ℕ) → ℕ → Record → List ℕ
 recordLines lookup index r = indentAt index ++ (lineText lookup r ++ (bytes "\n" ++ textLine lookup index (r .text)))
 
--- the lines of records, of which the first has this index
-unfoldable pub listingFrom : (ℕ → List ℕ) → ℕ → List Record → List ℕ
-listingFrom lookup index [] = []
-listingFrom lookup index (r ∷ rs) = recordLines lookup index r ++ listingFrom lookup (suc index) rs
+-- the lines of records, one after the other
+abbrev pub listing : (ℕ → List ℕ) → List Record → List ℕ
+listing lookup records = inOrder (recordLines lookup) records

@@ -7,10 +7,10 @@ use Rattle.buffer.specs.Lent.{partIn}
 use Rattle.records.specs.Sets.{listOf}
 use Rattle.records.specs.declared.Record.{Record}
 use Rattle.records.specs.declared.Records.{Records}
-use Rattle.display.specs.Listings.{lineText, listingFrom}
+use Rattle.display.specs.Listings.{lineText, listing}
 
 abbrev pub LinePut : List ℕ × ℕ × List ℕ × List ℕ × Record → ℕ × List ℕ → Type 0
 LinePut (before, at, lent, starting, item) out = Appends (lineText (partIn lent starting) item) (at, before) out
 
 abbrev pub ListingPut : List ℕ × ℕ × List ℕ × List ℕ × Records → ℕ × List ℕ → Type 0
-ListingPut (before, at, lent, starting, records) out = Appends (listingFrom (partIn lent starting) 0 (listOf records)) (at, before) out
+ListingPut (before, at, lent, starting, records) out = Appends (listing (partIn lent starting) (listOf records)) (at, before) out

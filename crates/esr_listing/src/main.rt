@@ -1,6 +1,133 @@
-// A value on each line of standard input: the listing or the refusal of each, named where there are more than one.
-use cli::Kind;
+// A value on each line of standard input: the listing or the refusal of each, named where there are more than one. What is said of a line is
+// promised by `listing_reply`; here lines of any length are read and replies are written, through fixed buffers.
+use libc::STDIN_FILENO;
+use listing_reply::put_listing_reply;
+use number::Number;
+use number::NumberState;
+
+// Where a run stands between two parts of its input. The first listing is held until it is known whether a line follows it.
+struct Standing {
+    line: NumberState,
+    count: u64,
+    named: bool,
+    held: bool,
+}
+
+// Puts a reply after what is held. Where the buffer ends within it, what is held is written, and the reply is put at the front.
+fn reply(buf: &mut [u8], at: usize, line: u64, number: Number) -> usize {
+    let end = put_listing_reply(buf, at, line, number);
+    if end <= buf.len() {
+        return end;
+    }
+    streams::flush(buf, at);
+    put_listing_reply(buf, 0, line, number)
+}
+
+// Answers the line that is held, now that more follows it.
+fn answer_held(from: Standing, buf: &mut [u8]) -> Standing {
+    if !from.held {
+        return from;
+    }
+    let line = from.line;
+    let at = reply(buf, 0, from.count, line.finish());
+    streams::flush(buf, at);
+    Standing {
+        line: NumberState::start(),
+        count: from.count,
+        named: true,
+        held: false,
+    }
+}
+
+// Whether a line is not the only one, as far as this part of the input tells.
+fn is_followed(named: bool, part: &[u8], next: usize) -> bool {
+    if named {
+        return true;
+    }
+    next < part.len()
+}
+
+// Answers the lines that end in a part of the input, and hands on where the run stands.
+fn answer_part(from: Standing, part: &[u8], buf: &mut [u8]) -> Standing {
+    let mut line = from.line;
+    let mut count = from.count;
+    let mut named = from.named;
+    let mut held = false;
+    let mut next: usize = 0;
+    let mut at: usize = 0;
+    while next < part.len() {
+        let taken = line_reader::take_line(line, part, next);
+        line = taken.state;
+        next = taken.next;
+        if taken.ended {
+            count = std::num::wrapping_add_u64(count, 1);
+            named = is_followed(named, part, next);
+            held = !named;
+            if named {
+                at = reply(buf, at, count, line.finish());
+                line = NumberState::start();
+            }
+        }
+    }
+    streams::flush(buf, at);
+    Standing {
+        line,
+        count,
+        named,
+        held,
+    }
+}
+
+// Whether a line is still to be answered: one that is held, or a last one without a line feed that has a character.
+fn is_left(standing: Standing) -> bool {
+    if standing.held {
+        return true;
+    }
+    let line = standing.line;
+    line.is_open()
+}
+
+// The number of the last line among the lines; 0 where it is the only one, which has no name.
+fn last_number(standing: Standing) -> u64 {
+    if standing.named {
+        return std::num::wrapping_add_u64(standing.count, 1);
+    }
+    0
+}
+
+fn answer_last(standing: Standing, buf: &mut [u8]) {
+    if !is_left(standing) {
+        return;
+    }
+    let line = standing.line;
+    let end = reply(buf, 0, last_number(standing), line.finish());
+    streams::flush(buf, end);
+}
+
+// A proved loop has to end, and nothing says that an input does: it counts down from a number of reads that no run uses up.
+fn answer_all(part: &mut [u8], buf: &mut [u8]) {
+    let mut standing = Standing {
+        line: NumberState::start(),
+        count: 0,
+        named: false,
+        held: false,
+    };
+    let mut turns = u64::MAX;
+    while 0 < turns {
+        let got = libc::read(STDIN_FILENO, part);
+        let n = streams::count_read(got, part);
+        if n == 0 {
+            answer_last(standing, buf);
+            return;
+        }
+        standing = answer_held(standing, buf);
+        standing = answer_part(standing, &part[0..n], buf);
+        turns -= 1;
+    }
+}
 
 fn main() {
-    cli::answer(Kind::Listing);
+    let mut part = io::large_buffer();
+    let mut buf = io::large_buffer();
+    answer_all(&mut part, &mut buf);
 }

@@ -14,7 +14,7 @@ use Rattle.esr.specs.declared.Answer.{Answer}
 use Rattle.esr.proofs.Laws.{answer-room}
 use Rattle.strings.specs.Outcomes.{refused, text}
 use Rattle.listing.specs.Requested.{lineIn, recordLine, listingOf}
-use Rattle.display.specs.Listings.{lineText, listingFrom}
+use Rattle.display.specs.Listings.{lineText, listing}
 use Rattle.texts.specs.Pool.{bytesAt}
 
 module _ (esr : ℕ) {a : Answer} {n : ℕ} (is : a ≡ answerOf esr) (by : n ≡ refusalNumber (a .refusal)) where
@@ -22,7 +22,7 @@ module _ (esr : ℕ) {a : Answer} {n : ℕ} (is : a ≡ answerOf esr) (by : n �
   unfolding listingOf
   listing-no h = rw (← is, ne-eqb (refusalNumber (a .refusal)) 0 (λ e. h (by ∙ e)))
 
-  pub listing-yes : n ≡ 0 → listingOf esr ≡ text (listingFrom bytesAt 0 (listOf (a .records)))
+  pub listing-yes : n ≡ 0 → listingOf esr ≡ text (listing bytesAt (listOf (a .records)))
   unfolding listingOf
   listing-yes h = rw (← is, eq-eqb (refusalNumber (a .refusal)) 0 (sym by ∙ h))
 

@@ -28,7 +28,8 @@ use Rattle.esr.proofs.Laws.{answer-has}
 use Rattle.strings.specs.Outcomes as outcome
 use Rattle.strings.proofs.Cases.{field-most, field-short}
 use Rattle.listing.specs.Requested.{listingOf}
-use Rattle.display.specs.Listings.{indentAt, lineText, textLine, recordLines, listingFrom}
+use Rattle.buffer.specs.InOrder.{eachFrom}
+use Rattle.display.specs.Listings.{indentAt, lineText, textLine, recordLines, listing}
 use Rattle.listing.specs.Longest.{listingMost}
 use Rattle.display.proofs.Cases.{length-line, text-none, length-some, length-lines}
 
@@ -92,8 +93,8 @@ row-most index v row =
 
 -- of rows: the first ones of the value, the others of its ISS
 rows-most : (index esr iss : ℕ) (top own : List Row)
-    → length (listingFrom bytesAt index (map (recordOf esr) top ++ map (recordOf iss) own)) ≤ rowsMost index (top ++ own)
-unfolding listingFrom rowsMost
+    → length (eachFrom (recordLines bytesAt) index (map (recordOf esr) top ++ map (recordOf iss) own)) ≤ rowsMost index (top ++ own)
+unfolding eachFrom rowsMost
 rows-most index esr iss [] [] = omega arith
 rows-most index esr iss [] (r ∷ rs) = rw length-append (omega (arith, row-most index iss r, rows-most (suc index) esr iss [] rs))
 rows-most index esr iss (r ∷ rs) own = rw length-append (omega (arith, row-most index esr r, rows-most (suc index) esr iss rs own))
@@ -112,7 +113,7 @@ unfolding layouts res0 wf mcr mcrr ldc sve ld64b bti pauth hvc brk fp breakpoint
 all-short = tt
 
 abbrev Short : Answer → Type 0
-Short a = length (listingFrom bytesAt 0 (listOf (a .records))) ≤ listingMost
+Short a = length (listing bytesAt (listOf (a .records))) ≤ listingMost
 
 accepted-short : (s : Served) → List·Memᴰ s layouts → (esr iss : ℕ) → Short (accepted (recordsFor (s .table) esr iss))
 unfolding accepted recordsOf recordsFor
@@ -125,7 +126,7 @@ accepted-short s m esr iss =
     (omega (arith, leb→le (rowsMost 0 (top ++ own)) listingMost fits, rows-most 0 esr iss top own))
 
 answer-short : (esr : ℕ) → Short (answerOf esr)
-unfolding refused recordsOf listingFrom
+unfolding refused recordsOf eachFrom
 answer-short = answer-has Short (λ f. omega arith) accepted-short
 
 -- a buffer of so many bytes holds the listing of any value
@@ -133,13 +134,13 @@ pub listing-most : (esr : ℕ) (t : List ℕ) → listingOf esr ≡ outcome.text
 unfolding listingOf
 listing-most esr t is = by (passed (answerOf esr .refusal)) is
   where
-    by : (b : Bool) → cond b (outcome.text (listingFrom bytesAt 0 (listOf (answerOf esr .records)))) (outcome.refused (answerOf esr .refusal)) ≡ outcome.text t → length t ≤ listingMost
-    by true e = let same : listingFrom bytesAt 0 (listOf (answerOf esr .records)) ≡ t = cc in rw same at (answer-short esr)
+    by : (b : Bool) → cond b (outcome.text (listing bytesAt (listOf (answerOf esr .records)))) (outcome.refused (answerOf esr .refusal)) ≡ outcome.text t → length t ≤ listingMost
+    by true e = let same : listing bytesAt (listOf (answerOf esr .records)) ≡ t = cc in rw same at (answer-short esr)
     by false e = let z : _≡_ {A = ℕ} 0 1 = cc in absurd (omega arith)
 
 -- so a usize counts it
-pub small : (esr : ℕ) {a : Answer} → a ≡ answerOf esr → length (listingFrom bytesAt 0 (listOf (a .records))) < 2 ^ 64
-small esr is = subst (λ (x : Answer). length (listingFrom bytesAt 0 (listOf (x .records))) < 2 ^ 64) (sym is) (omega (arith, answer-short esr))
+pub small : (esr : ℕ) {a : Answer} → a ≡ answerOf esr → length (listing bytesAt (listOf (a .records))) < 2 ^ 64
+small esr is = subst (λ (x : Answer). length (listing bytesAt (listOf (x .records))) < 2 ^ 64) (sym is) (omega (arith, answer-short esr))
 
 -- and a record's line, whatever the record
 pub line-small : (r : Record) → r .width < 256 → length (lineText bytesAt r) < 2 ^ 64

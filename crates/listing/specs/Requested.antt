@@ -10,7 +10,7 @@ use Rattle.refusals.specs.declared.Reason.the-variants.{BadIndex}
 use Rattle.records.specs.Sets.{noRecord, listOf}
 use Rattle.records.specs.declared.Record.{Record}
 use Rattle.esr.specs.Decode.{answerOf}
-use Rattle.display.specs.Listings.{lineText, listingFrom}
+use Rattle.display.specs.Listings.{lineText, listing}
 use Rattle.texts.specs.Pool.{bytesAt}
 use Rattle.strings.specs.Outcomes.{Outcome, refused, text}
 
@@ -23,4 +23,4 @@ recordLine esr index =
 
 unfoldable pub listingOf : ℕ → Outcome
 listingOf esr =
-    cond (passed (answerOf esr .refusal)) (text (listingFrom bytesAt 0 (listOf (answerOf esr .records)))) (refused (answerOf esr .refusal))
+    cond (passed (answerOf esr .refusal)) (text (listing bytesAt (listOf (answerOf esr .records)))) (refused (answerOf esr .refusal))

@@ -23,7 +23,8 @@ use Rattle.tables.specs.Tables.{topRows, layouts, res0, wf, mcr, mcrr, ldc, sve
 use Rattle.esr.specs.Decode.{firstFailure, refused, accepted as acceptedAnswer, failureFor, recordsFor, tableAnswer, classAnswer, answerOf}
 use Rattle.esr.specs.declared.Answer.{Answer}
 use Rattle.listing.specs.Requested.{listingOf}
-use Rattle.display.specs.Listings.{indentAt, lineText, textLine, recordLines, listingFrom}
+use Rattle.display.specs.Listings.{indentAt, lineText, textLine, recordLines}
+use Rattle.buffer.specs.InOrder.{eachFrom}
 use Rattle.digits.specs.Digits.{digitChar, digitsOf}
 use Rattle.strings.specs.Fields.{valueText, binaryText, binarySuffix, fieldText}
 use Rattle.strings.specs.Outcomes.{Outcome, text as inFull, answered, left}
@@ -121,7 +122,7 @@ unfolding bytes numberOf numberIn readDigits readDigit startsWith digitOf
 read = refl
 
 in-full : listingOf 0x56000001 ≡ inFull (ended listed)
-unfolding listed ended listingOf listingFrom recordLines textLine indentAt lineText fieldText valueText binaryText binarySuffix digitsOf digitChar bytesAt bytes answerOf classAnswer tableAnswer failureFor recordsFor acceptedAnswer refused topRows firstFailure layouts res0 wf mcr mcrr ldc sve ld64b bti pauth hvc brk fp breakpoint softwareStep watchpoint instructionAbort dataAbort serror undivided passes rowsFor checksFor fieldOf recordOf meets refusalOf kindOf recordsOf textIn onList ruleAt describes byValue described codesOf texts textAt indexIn code firstOf textCode names rules
+unfolding listed ended listingOf eachFrom recordLines textLine indentAt lineText fieldText valueText binaryText binarySuffix digitsOf digitChar bytesAt bytes answerOf classAnswer tableAnswer failureFor recordsFor acceptedAnswer refused topRows firstFailure layouts res0 wf mcr mcrr ldc sve ld64b bti pauth hvc brk fp breakpoint softwareStep watchpoint instructionAbort dataAbort serror undivided passes rowsFor checksFor fieldOf recordOf meets refusalOf kindOf recordsOf textIn onList ruleAt describes byValue described codesOf texts textAt indexIn code firstOf textCode names rules
 in-full = refl
 
 listing-holds : ListingHolds

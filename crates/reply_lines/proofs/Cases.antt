@@ -1,23 +1,27 @@
--- The two texts that a test tells apart, by what the test found.
-use mathlib.Core.Path.{_≡_}
-use mathlib.Core.List.{_++_}
-use Prim.Native.Nat.{ℕ, _≤_, _<_}
-use borrow.Author.Tests.{lt-ltb, le-ltb, eq-eqb, ne-eqb}
-use Rattle.reply_lines.specs.Lines.{depthAt, textPart}
-use Rattle.texts.specs.Pool.{bytes, bytesAt}
+-- The words of a refusal by whether it has a message; of the project's own pool words of our own are the definition's.
+use Prim.Native.Nat.{ℕ}
+use mathlib.Core.Bool.{true, false}
+use mathlib.Core.List.{List}
+use mathlib.Core.Path.{_≡_, sym, _∙_}
+use Rattle.buffer.proofs.Lent.{lent-text}
+use Rattle.buffer.specs.Lent.{Lent, partIn}
+use Rattle.reply_lines.specs.Lines.{why}
+use Rattle.strings.proofs.Messages.{has-message}
+use Rattle.strings.specs.Messages.{messageText}
+use Rattle.texts.proofs.Laws.{text-described}
+use Rattle.texts.specs.Pool.{bytes, bytesAt, describes, descriptionOf, textCode}
+use Rattle.texts.specs.Rules.{message, ownWords}
 
-pub depth-top : (index : ℕ) → index < 5 → depthAt index ≡ bytes "0"
-unfolding depthAt
-depth-top index h = rw (lt-ltb index 5 h)
+module _ (number carried : ℕ) where
+  pub why-message : describes (message .number) number ≡ true → why number carried ≡ messageText number carried
+  unfolding why
+  why-message h = rw (sym (has-message number) ∙ h)
 
-pub depth-own : (index : ℕ) → 5 ≤ index → depthAt index ≡ bytes "1"
-unfolding depthAt
-depth-own index h = rw (le-ltb index 5 h)
+  pub why-own : describes (message .number) number ≡ false → why number carried ≡ bytes (descriptionOf (ownWords .number) number)
+  unfolding why
+  why-own h = rw (sym (has-message number) ∙ h)
 
-pub part-none : (code : ℕ) → code ≡ 0 → textPart code ≡ bytes "|" ++ bytes "-"
-unfolding textPart
-part-none code e = rw (eq-eqb code 0 e)
-
-pub part-text : (code : ℕ) → (code ≡ 0 → ⊥) → textPart code ≡ bytes "|" ++ bytesAt code
-unfolding textPart
-part-text code h = rw (ne-eqb code 0 h)
+pub words-lent : (number : ℕ) {lent starting : List ℕ} → Lent lent starting
+    → partIn lent starting (textCode (ownWords .number) number) ≡ bytes (descriptionOf (ownWords .number) number)
+unfolding bytesAt
+words-lent number own = rw (lent-text (textCode (ownWords .number) number) own, text-described (ownWords .number) number)

@@ -1,13 +1,13 @@
 -- Each promise of this crate decides the next offset and the buffer: it says what both are.
 use Rattle.promise.proofs.Laws.{same}
 use Rattle.promise.specs.Promise.{Decides}
-use Rattle.reply_lines.specs.Promises.{BodyLine, NumberLine, RecordLines}
+use Rattle.reply_lines.specs.Promises.{CarriedLine, NumberLine, RefusalLine}
 
 pub put-number-line-decides : Decides NumberLine
 put-number-line-decides (before, at, front, base, value) a b p q = same (p .is) (q .is)
 
-pub put-body-decides : Decides BodyLine
-put-body-decides (before, at, body) a b p q = same (p .is) (q .is)
+pub put-refusal-decides : Decides RefusalLine
+put-refusal-decides (before, at, number, carried) a b p q = same (p .is) (q .is)
 
-pub put-record-lines-decides : Decides RecordLines
-put-record-lines-decides (before, at, records) a b p q = same (p .is) (q .is)
+pub put-carried-decides : Decides CarriedLine
+put-carried-decides (before, at, number, carried) a b p q = same (p .is) (q .is)

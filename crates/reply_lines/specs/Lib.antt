@@ -1,3 +1,2 @@
-pub mod InOrder
 pub mod Lines
 pub mod Promises

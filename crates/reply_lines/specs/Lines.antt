@@ -1,48 +1,34 @@
--- The lines that replies are made of, byte for byte.
+-- The lines that every reply is made of, byte for byte.
 use Prim.Native.Nat.{ℕ}
 use mathlib.Core.Bool.{cond}
 use mathlib.Core.List.{List, _++_}
-use lib.Dec.{eqb, ltb}
-use Rattle.digits.specs.Digits.{digitsOf, numeral}
-use Rattle.reply_lines.specs.InOrder.{inOrder}
-use Rattle.records.specs.Sets.{listOf}
-use Rattle.records.specs.declared.Record.{Record}
-use Rattle.records.specs.declared.Records.{Records}
-use Rattle.texts.specs.Pool.{bytes, bytesAt}
+use Rattle.digits.specs.Digits.{numeral}
+use Rattle.refusals.specs.Refusals.{refusalNumber}
+use Rattle.refusals.specs.declared.Refusal.{Refusal}
+use Rattle.strings.specs.Messages.{hasMessage, messageText}
+use Rattle.texts.specs.Pool.{bytes, descriptionOf}
+use Rattle.texts.specs.Rules.{ownWords}
 
 -- a line that ends with a number, in this base
 unfoldable pub numberLine : List ℕ → ℕ → ℕ → List ℕ
 numberLine front base n = front ++ numeral base n ++ bytes "\n"
 
--- The body of a flash entry: each byte by two digits, after a space.
+-- The refusals of a value, 1 to 7, have the Rust's message, those of lines and of entries words of our own. The others, 11 to 13 and 17, are not
+-- said of a line or of an entry, and have no words.
+unfoldable pub why : ℕ → ℕ → List ℕ
+why number carried = cond (hasMessage number) (messageText number carried) (bytes (descriptionOf (ownWords .number) number))
 
-unfoldable pub byteText : ℕ → ℕ → List ℕ
-byteText index byte = bytes " " ++ digitsOf 16 2 byte
+-- refused N
+unfoldable pub refusedBy : ℕ → List ℕ
+refusedBy number = bytes "refused " ++ numeral 10 number
 
-unfoldable pub bodyLine : List ℕ → List ℕ
-bodyLine body = bytes "body" ++ inOrder byteText body ++ bytes "\n"
+-- refused N: WHY
+unfoldable pub refusalLine : ℕ → ℕ → List ℕ
+refusalLine number carried = refusedBy number ++ bytes ": " ++ why number carried ++ bytes "\n"
 
--- Records for machines, a line for each: DEPTH|NAME|LONG NAME|START|WIDTH|0xVALUE|TEXT, with `-` for a long name or a text that a record does
--- not have.
+abbrev pub refusal : Refusal → List ℕ
+refusal f = refusalLine (refusalNumber f) (f .carries)
 
--- ISS's own records are those from the sixth on
-unfoldable pub depthAt : ℕ → List ℕ
-depthAt index = cond (ltb index 5) (bytes "0") (bytes "1")
-
--- a name or a text by its code; code 0 is none
-unfoldable pub textPart : ℕ → List ℕ
-textPart code = bytes "|" ++ cond (eqb code 0) (bytes "-") (bytesAt code)
-
-unfoldable pub numberPart : ℕ → List ℕ
-numberPart n = bytes "|" ++ numeral 10 n
-
--- |START|WIDTH|0xVALUE
-unfoldable pub bitsPart : Record → List ℕ
-bitsPart r = numberPart (r .start) ++ numberPart (r .width) ++ bytes "|0x" ++ numeral 16 (r .value)
-
-unfoldable pub recordLine : ℕ → Record → List ℕ
-recordLine index r = depthAt index ++ textPart (r .name) ++ textPart (r .long) ++ bitsPart r ++ textPart (r .text) ++ bytes "\n"
-
--- the lines of the records that a set counts
-abbrev pub recordLines : Records → List ℕ
-recordLines records = inOrder recordLine (listOf records)
+-- refused N carried=0xH WHY
+unfoldable pub carriedLine : ℕ → ℕ → List ℕ
+carriedLine number carried = refusedBy number ++ bytes " carried=0x" ++ numeral 16 carried ++ bytes " " ++ why number carried ++ bytes "\n"

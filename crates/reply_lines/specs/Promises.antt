@@ -4,14 +4,13 @@ use mathlib.Core.List.{List}
 use Rattle.buffer.specs.Appending.{Appends}
 use Rattle.digits.specs.Digits.{radixOf}
 use Rattle.digits.specs.declared.Base.{Base}
-use Rattle.records.specs.declared.Records.{Records}
-use Rattle.reply_lines.specs.Lines.{bodyLine, numberLine, recordLines}
+use Rattle.reply_lines.specs.Lines.{carriedLine, numberLine, refusalLine}
 
 abbrev pub NumberLine : List ℕ × ℕ × List ℕ × Base × ℕ → ℕ × List ℕ → Type 0
 NumberLine (before, at, front, base, value) out = Appends (numberLine front (radixOf base) value) (at, before) out
 
-abbrev pub BodyLine : List ℕ × ℕ × List ℕ → ℕ × List ℕ → Type 0
-BodyLine (before, at, body) out = Appends (bodyLine body) (at, before) out
+abbrev pub RefusalLine : List ℕ × ℕ × ℕ × ℕ → ℕ × List ℕ → Type 0
+RefusalLine (before, at, number, carried) out = Appends (refusalLine number carried) (at, before) out
 
-abbrev pub RecordLines : List ℕ × ℕ × Records → ℕ × List ℕ → Type 0
-RecordLines (before, at, records) out = Appends (recordLines records) (at, before) out
+abbrev pub CarriedLine : List ℕ × ℕ × ℕ × ℕ → ℕ × List ℕ → Type 0
+CarriedLine (before, at, number, carried) out = Appends (carriedLine number carried) (at, before) out

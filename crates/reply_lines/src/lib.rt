@@ -1,20 +1,13 @@
-// The lines that replies are made of, in a lent buffer from an offset on: one that ends with a number, the body of a flash entry, and the
-// records of a value for machines, a line for each.
+// The lines that every reply is made of, in a lent buffer from an offset on: one that ends with a number; a refusal by its number, and why: the
+// Rust's message where there is one, else words of our own.
 ghost use Rattle.buffer.specs.Appending.{Appends};
-ghost use Rattle.buffer.specs.Lent.{Lent};
-ghost use Rattle.reply_lines.specs.InOrder.{inOrder};
-ghost use Rattle.reply_lines.specs.Lines.{bitsPart, byteText, depthAt, numberPart, recordLine, textPart};
-ghost use Rattle.reply_lines.specs.Promises.{BodyLine, NumberLine, RecordLines};
+ghost use Rattle.reply_lines.specs.Lines.{refusedBy, why};
+ghost use Rattle.reply_lines.specs.Promises.{CarriedLine, NumberLine, RefusalLine};
 use buffer::put_bytes;
 use buffer::put_text;
 use digits::Base;
-use digits::put_digits;
 use digits::put_number;
-use records::Record;
-use records::Records;
-
-// ISS's own records come after the five of the top.
-const TOP: usize = 5;
+use texts::rules;
 
 pub fn put_number_line(buf: &mut [u8], at: usize, front: &[u8], base: Base, value: u64) -> usize
     ensures { λ r. ⌜ NumberLine (now (buf .entry), at, now (front .entry), base, value) (r, now (buf .exit)) ⌝ }
@@ -24,99 +17,42 @@ pub fn put_number_line(buf: &mut [u8], at: usize, front: &[u8], base: Base, valu
     put_bytes(buf, next, b"\n")
 }
 
-// Each byte after a space.
-fn put_each(buf: &mut [u8], at: usize, body: &[u8]) -> usize
-    ensures { λ r. ⌜ Appends (inOrder byteText (now (body .entry))) (at, now (buf .entry)) (r, now (buf .exit)) ⌝ }
+fn put_refused(buf: &mut [u8], at: usize, number: u8) -> usize
+    ensures { λ r. ⌜ Appends (refusedBy number) (at, now (buf .entry)) (r, now (buf .exit)) ⌝ }
 {
-    let mut next = at;
-    let mut i: usize = 0;
-    while i < body.len() {
-        next = put_bytes(buf, next, b" ");
-        next = put_digits(buf, next, Base::Hex, 2, body[i] as u64);
-        i += 1;
-    }
-    next
-}
-
-pub fn put_body(buf: &mut [u8], at: usize, body: &[u8]) -> usize
-    ensures { λ r. ⌜ BodyLine (now (buf .entry), at, now (body .entry)) (r, now (buf .exit)) ⌝ }
-{
-    let mut next = put_bytes(buf, at, b"body");
-    next = put_each(buf, next, body);
-    put_bytes(buf, next, b"\n")
-}
-
-fn put_depth(buf: &mut [u8], at: usize, index: usize) -> usize
-    ensures { λ r. ⌜ Appends (depthAt index) (at, now (buf .entry)) (r, now (buf .exit)) ⌝ }
-{
-    if index < TOP {
-        return put_bytes(buf, at, b"0");
-    }
-    put_bytes(buf, at, b"1")
-}
-
-fn put_text_part(buf: &mut [u8], at: usize, pool: &[u8], starts: &[u16], code: u16) -> usize
-    requires { ⌜ Lent (now pool) (now starts) ⌝ }
-    ensures { λ r. ⌜ Appends (textPart code) (at, now (buf .entry)) (r, now (buf .exit)) ⌝ }
-{
-    let next = put_bytes(buf, at, b"|");
-    if code == 0 {
-        return put_bytes(buf, next, b"-");
-    }
-    put_text(buf, next, pool, starts, code)
-}
-
-fn put_number_part(buf: &mut [u8], at: usize, number: u8) -> usize
-    ensures { λ r. ⌜ Appends (numberPart number) (at, now (buf .entry)) (r, now (buf .exit)) ⌝ }
-{
-    let next = put_bytes(buf, at, b"|");
+    let next = put_bytes(buf, at, b"refused ");
     put_number(buf, next, Base::Decimal, number as u64)
 }
 
-fn put_bits(buf: &mut [u8], at: usize, item: Record) -> usize
-    ensures { λ r. ⌜ Appends (bitsPart item) (at, now (buf .entry)) (r, now (buf .exit)) ⌝ }
-{
-    let mut next = put_number_part(buf, at, item.start);
-    next = put_number_part(buf, next, item.width);
-    next = put_bytes(buf, next, b"|0x");
-    put_number(buf, next, Base::Hex, item.value)
-}
-
-// DEPTH|NAME|LONG NAME|START|WIDTH|0xVALUE|TEXT
-fn put_record(
-    buf: &mut [u8],
-    at: usize,
-    pool: &[u8],
-    starts: &[u16],
-    index: usize,
-    item: Record,
-) -> usize
-    requires { ⌜ Lent (now pool) (now starts) ⌝ }
-    ensures { λ r. ⌜ Appends (recordLine index item) (at, now (buf .entry)) (r, now (buf .exit)) ⌝ }
-{
-    let mut next = put_depth(buf, at, index);
-    next = put_text_part(buf, next, pool, starts, item.name);
-    next = put_text_part(buf, next, pool, starts, item.long);
-    next = put_bits(buf, next, item);
-    next = put_text_part(buf, next, pool, starts, item.text);
-    put_bytes(buf, next, b"\n")
-}
-
-// The pool is fetched once, since fetching copies it.
-pub fn put_record_lines(buf: &mut [u8], at: usize, records: Records) -> usize
-    ensures { λ r. ⌜ RecordLines (now (buf .entry), at, records) (r, now (buf .exit)) ⌝ }
+fn put_why(buf: &mut [u8], at: usize, number: u8, carried: u64) -> usize
+    ensures { λ r. ⌜ Appends (why number carried) (at, now (buf .entry)) (r, now (buf .exit)) ⌝ }
 {
     let pool = texts::pool_bytes();
     let starts = texts::text_starts();
-    let mut next = at;
-    let mut i: usize = 0;
-    while i < records.count {
-        if Records::MAX <= i {
-            return next;
-        }
-        let item = records.items[i];
-        next = put_record(buf, next, &pool, &starts, i, item);
-        i += 1;
+    if lookup::describes(rules::MESSAGE, number as u64) {
+        return strings::put_message(buf, at, &pool, &starts, number as u64, carried);
     }
-    next
+    let code = lookup::text_code(rules::OWN_WORDS, number as u64);
+    put_text(buf, at, &pool, &starts, code)
+}
+
+pub fn put_refusal(buf: &mut [u8], at: usize, number: u8, carried: u64) -> usize
+    ensures { λ r. ⌜ RefusalLine (now (buf .entry), at, number, carried) (r, now (buf .exit)) ⌝ }
+{
+    let mut next = put_refused(buf, at, number);
+    next = put_bytes(buf, next, b": ");
+    next = put_why(buf, next, number, carried);
+    put_bytes(buf, next, b"\n")
+}
+
+// For machines.
+pub fn put_carried(buf: &mut [u8], at: usize, number: u8, carried: u64) -> usize
+    ensures { λ r. ⌜ CarriedLine (now (buf .entry), at, number, carried) (r, now (buf .exit)) ⌝ }
+{
+    let mut next = put_refused(buf, at, number);
+    next = put_bytes(buf, next, b" carried=0x");
+    next = put_number(buf, next, Base::Hex, carried);
+    next = put_bytes(buf, next, b" ");
+    next = put_why(buf, next, number, carried);
+    put_bytes(buf, next, b"\n")
 }

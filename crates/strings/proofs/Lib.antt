@@ -1,4 +1,5 @@
 pub mod Cases
+pub mod Messages
 pub mod Answers
 pub mod Kept
 pub mod Decides

@@ -43,7 +43,7 @@ fn say_run(run: Run) {
     io::write_all(STDOUT_FILENO, b" ");
     let line = run.line;
     let bytes = line.bytes;
-    output::flush(&bytes, line.length);
+    streams::flush(&bytes, line.length);
     io::write_all(STDOUT_FILENO, b"\n");
 }
 

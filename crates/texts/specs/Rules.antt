@@ -398,6 +398,18 @@ messageEnd =
     7 means " for trapped LD64B or ST64B*" ∷
     [])
 
+-- Words of our own for the refusals of lines and of entries (02 adds some up to 29), by the refusal's number.
+abbrev pub ownWords : Rule
+ownWords =
+    rule 47 32 (
+    8 means "there is no digit" ∷
+    9 means "a character is no digit" ∷
+    10 means "the number does not fit 64 bits" ∷
+    14 means "the bytes end before the entry does" ∷
+    15 means "the entry's length is not 11" ∷
+    16 means "the entry's version is not 1" ∷
+    [])
+
 unfoldable pub rules : List Rule
 rules =
     plain ∷ il ∷ cv ∷ rv ∷ mcrRead ∷ offsetSign ∷ ldcRead ∷ iOrD ∷
@@ -405,5 +417,5 @@ rules =
     stepValid ∷ ex ∷ watchWnR ∷ fnv ∷ pfv ∷ isv ∷ sf ∷ ar ∷
     fnp ∷ fnpNotValid ∷ wnr ∷ ids ∷ els ∷ vfv ∷ iesb ∷ wnrv ∷
     issRes0 ∷ className ∷ ti ∷ am ∷ ld64bIss ∷ debugStatus ∷ faultStatus ∷ setType ∷
-    sas ∷ wu ∷ aet ∷ serrorStatus ∷ wnrNotValid ∷ message ∷ messageEnd ∷
+    sas ∷ wu ∷ aet ∷ serrorStatus ∷ wnrNotValid ∷ message ∷ messageEnd ∷ ownWords ∷
     []

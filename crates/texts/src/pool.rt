@@ -1,11 +1,11 @@
 // The pool, where each text starts in it, and the first code of each rule of more than one bit. Written by tools/pool from the
 // strings of specs/Names.antt and specs/Rules.antt; the prover shows that it is their bytes.
 
-pub const LENGTH: usize = 7337;
-pub const COUNT: usize = 499;
-pub const START_COUNT: usize = 500;
+pub const LENGTH: usize = 7499;
+pub const COUNT: usize = 531;
+pub const START_COUNT: usize = 532;
 
-pub const POOL: [u8; 7337] = *b"\
+pub const POOL: [u8; 7499] = *b"\
     RES0\
     Reserved\
     ISS2\
@@ -302,9 +302,15 @@ pub const POOL: [u8; 7337] = *b"\
     Invalid AM \
     Invalid ISS \
     \x20for trapped LD64B or ST64B*\
+    there is no digit\
+    a character is no digit\
+    the number does not fit 64 bits\
+    the bytes end before the entry does\
+    the entry's length is not 11\
+    the entry's version is not 1\
 ";
 
-pub const STARTS: [u16; 500] = [
+pub const STARTS: [u16; 532] = [
     0, 0, 4, 12, 16, 18, 33, 35, 53, 56, 85, 87, 107, 111, 152, 154,
     169, 171, 185, 187, 206, 210, 214, 217, 219, 222, 231, 267, 270, 274, 316, 318,
     376, 382, 423, 425, 440, 445, 463, 467, 494, 498, 512, 517, 545, 552, 596, 599,
@@ -336,7 +342,9 @@ pub const STARTS: [u16; 500] = [
     7189, 7189, 7189, 7189, 7189, 7189, 7189, 7189, 7189, 7189, 7189, 7189, 7189, 7189, 7189, 7189,
     7189, 7189, 7189, 7189, 7189, 7189, 7189, 7189, 7189, 7189, 7189, 7189, 7189, 7189, 7189, 7189,
     7189, 7189, 7189, 7209, 7209, 7230, 7241, 7262, 7274, 7286, 7297, 7309, 7309, 7309, 7309, 7309,
-    7309, 7309, 7309, 7337,
+    7309, 7309, 7309, 7337, 7337, 7337, 7337, 7337, 7337, 7337, 7337, 7337, 7354, 7377, 7408, 7408,
+    7408, 7408, 7443, 7471, 7499, 7499, 7499, 7499, 7499, 7499, 7499, 7499, 7499, 7499, 7499, 7499,
+    7499, 7499, 7499, 7499,
 ];
 
 // The rules of one bit have two codes each, from here on.
@@ -356,3 +364,4 @@ pub const SERROR_STATUS_FIRST: u16 = 418;
 pub const WNR_NOT_VALID_FIRST: u16 = 482;
 pub const MESSAGE_FIRST: u16 = 483;
 pub const MESSAGE_END_FIRST: u16 = 491;
+pub const OWN_WORDS_FIRST: u16 = 499;

@@ -46,3 +46,4 @@ pub const SERROR_STATUS: u8 = 43;
 pub const WNR_NOT_VALID: u8 = 44;
 pub const MESSAGE: u8 = 45;
 pub const MESSAGE_END: u8 = 46;
+pub const OWN_WORDS: u8 = 47;

@@ -10,19 +10,19 @@ use Rattle.buffer.specs.Lent.{partIn}
 use Rattle.buffer.proofs.Appending.{none, and-then, same-length}
 use Rattle.records.proofs.Laws.{long-as}
 use Rattle.records.specs.Sets.{noRecord}
-use Rattle.display.specs.Listings.{listingFrom}
-use Rattle.display.proofs.Growing.{one-more, no-lines}
+use Rattle.buffer.proofs.InOrder.{one-more, no-items}
+use Rattle.display.specs.Listings.{listing, recordLines}
 use Rattle.display.proofs.put_listing.Statement.{statement}
 use Rattle.display.proofs.put_listing.Tie as tie
 
 abbrev Inv-loop : tie.InvT-loop
-Inv-loop buf₀ at pool starts records next₀ i₀ buf next i = (i ≤ 19) × (i ≤ records .count) × Appends (listingFrom (partIn pool starts) 0 (take i (records .items))) (at, buf₀) (next, buf) × (length buf ≡ length buf₀)
+Inv-loop buf₀ at pool starts records next₀ i₀ buf next i = (i ≤ 19) × (i ≤ records .count) × Appends (listing (partIn pool starts) (take i (records .items))) (at, buf₀) (next, buf) × (length buf ≡ length buf₀)
 
 abbrev μ-loop : tie.MeasureT-loop
 μ-loop buf₀ at pool starts records next₀ i₀ buf next i = 19 - i
 
 loop-holds : tie.Need-loop-holds Inv-loop μ-loop
-loop-holds c = (omega arith, omega arith, rw (no-lines (partIn _ _)) (none (omega arith)), refl)
+loop-holds c = (omega arith, omega arith, rw (no-items (recordLines (partIn _ _))) (none (omega arith)), refl)
 
 returns : tie.Need-returns Inv-loop μ-loop
 returns c =
@@ -38,7 +38,7 @@ loop-again c =
     let long : length items ≡ 19 = search (needs, long-as) in
     let within : l .loop .i < length items = omega arith in
     let w = and-then (l .loop .inv .2) (c .before .before .put-record .ensures) in
-    (omega arith, omega arith, rw (one-more (partIn _ _) items (l .loop .i) noRecord within) w, same-length w)
+    (omega arith, omega arith, rw (one-more (recordLines (partIn _ _)) items (l .loop .i) noRecord within) w, same-length w)
 
 returns-2 : tie.Need-returns-2 Inv-loop μ-loop
 returns-2 c =

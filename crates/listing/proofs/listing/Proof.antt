@@ -18,7 +18,7 @@ returns-2 c =
     let o = p .before .before .before .before in
     let i = o .before .before in
     let d = i .before .before .before .decode in
-    let own = listing-lent (record { whole = o .pool-bytes .ensures; each = o .before .text-starts .ensures }) 0 (listOf (d .result .records)) in
+    let own = listing-lent (record { whole = o .pool-bytes .ensures; each = o .before .text-starts .ensures }) (listOf (d .result .records)) in
     by-shortness (listing-yes _ (d .ensures) (i .before .number .ensures) (i .if1 .left)) (small _ (d .ensures)) (rw own at (p .put-listing .ensures)) (c .before .if2 .taken) (c .refused .ensures)
 
 returns-3 : tie.Need-returns-3
@@ -29,7 +29,7 @@ returns-3 c =
     let o = p .before .before .before .before in
     let i = o .before .before in
     let d = i .before .before .before .decode in
-    let own = listing-lent (record { whole = o .pool-bytes .ensures; each = o .before .text-starts .ensures }) 0 (listOf (d .result .records)) in
+    let own = listing-lent (record { whole = o .pool-bytes .ensures; each = o .before .text-starts .ensures }) (listOf (d .result .records)) in
     by-writing (listing-yes _ (d .ensures) (i .before .number .ensures) (i .if1 .left)) (small _ (d .ensures)) (rw own at (p .put-listing .ensures)) (f .if2 .left) (rw own at (q .put-listing2 .ensures)) refl
 
 pub listing-spec : {M : Type 1} → statement M

@@ -96,7 +96,11 @@ unfolding numbersOf bitsOf describes onList ruleAt firstOf codesOf rules
 returns-17 c = arm 46 (c .before .before .before .args .rule) _ (omega arith) refl
 
 returns-18 : tie.Need-returns-18
-returns-18 c = no-rule (c .before .before .before .args .rule) (others-le 32 (c .before .before .before .args .rule) 15 (c .before .if2 .left) (c .match .rest))
+unfolding numbersOf bitsOf describes onList ruleAt firstOf codesOf rules
+returns-18 c = arm 47 (c .before .before .before .args .rule) _ (omega arith) refl
+
+returns-19 : tie.Need-returns-19
+returns-19 c = no-rule (c .before .before .before .args .rule) (others-le 32 (c .before .before .before .args .rule) 16 (c .before .if2 .left) (c .match .rest))
 
 pub in-numbers-spec : {M : Type 1} → statement M
 in-numbers-spec =
@@ -123,4 +127,5 @@ in-numbers-spec =
     returns-15
     returns-16
     returns-17
-    returns-18)
+    returns-18
+    returns-19)

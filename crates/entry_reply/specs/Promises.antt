@@ -1,0 +1,8 @@
+-- What the public function promises: of what comes in and what the buffer holds before, the next offset and what the buffer holds after.
+use Prim.Native.Nat.{ℕ}
+use mathlib.Core.List.{List}
+use Rattle.buffer.specs.Appending.{Appends}
+use Rattle.entry_reply.specs.Replies.{entryReply}
+
+abbrev pub EntryReply : List ℕ × ℕ × List ℕ → ℕ × List ℕ → Type 0
+EntryReply (before, at, block) out = Appends (entryReply block) (at, before) out

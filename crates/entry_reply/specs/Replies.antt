@@ -1,0 +1,22 @@
+-- `esr entry`: what is said of one flash entry, byte for byte.
+use Prim.Native.Nat.{ℕ}
+use mathlib.Core.Bool.{cond}
+use mathlib.Core.List.{List, _++_}
+use Rattle.entry.specs.Entries.{entryOf, bodyOf}
+use Rattle.listing_reply.specs.Replies.{listed}
+use Rattle.record_lines.specs.Lines.{bodyLine}
+use Rattle.refusals.specs.Refusals.{passed}
+use Rattle.reply_lines.specs.Lines.{numberLine, refusal}
+use Rattle.texts.specs.Pool.{bytes}
+
+-- sequence, ESR, body and the listing of the ESR
+unfoldable pub entryText : ℕ → ℕ → List ℕ → List ℕ
+entryText sequence esr body =
+    numberLine (bytes "sequence ") 10 sequence ++ numberLine (bytes "esr 0x") 16 esr ++ bodyLine body ++ listed esr
+
+-- or the entry's refusal
+unfoldable pub entryReply : List ℕ → List ℕ
+entryReply block =
+    cond (passed (entryOf block .refusal))
+    (entryText (entryOf block .sequence) (entryOf block .esr) (bodyOf block))
+    (refusal (entryOf block .refusal))

@@ -1,0 +1,31 @@
+// What a workshop is told of a flash entry, byte for byte, in a lent buffer from an offset on: its numbers, its body and the listing of its ESR, or
+// its refusal.
+ghost use Rattle.buffer.specs.Appending.{Appends};
+ghost use Rattle.entry_reply.specs.Promises.{EntryReply};
+ghost use Rattle.entry_reply.specs.Replies.{entryText};
+use digits::Base;
+use listing_reply::put_listed;
+use record_lines::put_body;
+use reply_lines::put_number_line;
+use reply_lines::put_refusal;
+
+fn put_sound(buf: &mut [u8], at: usize, sequence: u16, esr: u64, body: &[u8]) -> usize
+    ensures { λ r. ⌜ Appends (entryText sequence esr (now (body .entry))) (at, now (buf .entry)) (r, now (buf .exit)) ⌝ }
+{
+    let mut next = put_number_line(buf, at, b"sequence ", Base::Decimal, sequence as u64);
+    next = put_number_line(buf, next, b"esr 0x", Base::Hex, esr);
+    next = put_body(buf, next, body);
+    put_listed(buf, next, esr)
+}
+
+pub fn put_entry_reply(buf: &mut [u8], at: usize, block: &[u8]) -> usize
+    ensures { λ r. ⌜ EntryReply (now (buf .entry), at, now (block .entry)) (r, now (buf .exit)) ⌝ }
+{
+    let entry = entry::read_entry(block);
+    let refusal = entry.refusal;
+    let reason = refusal.number();
+    if reason != 0 {
+        return put_refusal(buf, at, reason, refusal.carries);
+    }
+    put_sound(buf, at, entry.sequence, entry.esr, entry::entry_body(block))
+}

@@ -1,0 +1,13 @@
+-- What each public function promises: of what comes in and what the buffer holds before, the next offset and what the buffer holds after.
+use Prim.Native.Nat.{ℕ}
+use mathlib.Core.List.{List}
+use Rattle.buffer.specs.Appending.{Appends}
+use Rattle.number.specs.declared.Number.{Number}
+use Rattle.listing_reply.specs.Replies.{listed, listingReply}
+
+abbrev pub ListedPut : List ℕ × ℕ × ℕ → ℕ × List ℕ → Type 0
+ListedPut (before, at, esr) out = Appends (listed esr) (at, before) out
+
+-- line 0 is the only line
+abbrev pub ListingReply : List ℕ × ℕ × ℕ × Number → ℕ × List ℕ → Type 0
+ListingReply (before, at, line, number) out = Appends (listingReply line number) (at, before) out

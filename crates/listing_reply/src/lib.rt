@@ -1,0 +1,52 @@
+// What a workshop is told of one input line, byte for byte, in a lent buffer from an offset on: the listing of a value or its refusal in words,
+// named where there is more than one line.
+ghost use Rattle.buffer.specs.Appending.{Appends};
+ghost use Rattle.listing_reply.specs.Promises.{ListedPut, ListingReply};
+ghost use Rattle.listing_reply.specs.Replies.{nameLine};
+use digits::Base;
+use display::put_listing;
+use number::Number;
+use reply_lines::put_number_line;
+use reply_lines::put_refusal;
+
+// Of a value, whatever it came from.
+pub fn put_listed(buf: &mut [u8], at: usize, esr: u64) -> usize
+    ensures { λ r. ⌜ ListedPut (now (buf .entry), at, esr) (r, now (buf .exit)) ⌝ }
+{
+    let answer = esr::decode(esr);
+    let refusal = answer.refusal;
+    let reason = refusal.number();
+    if reason != 0 {
+        return put_refusal(buf, at, reason, refusal.carries);
+    }
+    let pool = texts::pool_bytes();
+    let starts = texts::text_starts();
+    put_listing(buf, at, &pool, &starts, answer.records)
+}
+
+// A line that holds no number is named by its number among the lines, since its bytes are not kept.
+fn put_name(buf: &mut [u8], at: usize, line: u64, number: Number) -> usize
+    ensures { λ r. ⌜ Appends (nameLine line number) (at, now (buf .entry)) (r, now (buf .exit)) ⌝ }
+{
+    if line == 0 {
+        return at;
+    }
+    let refusal = number.refusal;
+    if refusal.number() != 0 {
+        return put_number_line(buf, at, b"> line ", Base::Decimal, line);
+    }
+    put_number_line(buf, at, b"> 0x", Base::Hex, number.value)
+}
+
+// Line 0 is the only line, which has no name.
+pub fn put_listing_reply(buf: &mut [u8], at: usize, line: u64, number: Number) -> usize
+    ensures { λ r. ⌜ ListingReply (now (buf .entry), at, line, number) (r, now (buf .exit)) ⌝ }
+{
+    let next = put_name(buf, at, line, number);
+    let refusal = number.refusal;
+    let reason = refusal.number();
+    if reason != 0 {
+        return put_refusal(buf, next, reason, refusal.carries);
+    }
+    put_listed(buf, next, number.value)
+}
