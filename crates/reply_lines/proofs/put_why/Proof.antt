@@ -25,7 +25,7 @@ returns-2 c =
     let q = d .before in
     let a = q .before .before .before .args in
     let own = words-lent (a .number) (record { whole = q .before .pool-bytes .ensures; each = q .text-starts .ensures }) in
-    rw (why-own (a .number) (a .carried) (sym (d .describes .ensures) ∙ t .if1 .left), ← own, ← (w .text-code .ensures)) (p .put-text .ensures)
+    rw (why-own (a .number) (a .carried) (sym (d .describes .ensures) ∙ t .if1 .left), ← own) (rw (w .text-code .ensures) at (p .put-text .ensures))
 
 pub put-why-spec : {M : Type 1} → statement M
 put-why-spec =
