@@ -10,8 +10,8 @@ use lib.Seq.{take-suc, drop-cons, set-at, length-take-le, take-length, getD-take
 use borrow.Author.Tests.{eq-eqb, ne-eqb, le-leb, lt-leb}
 use Rattle.esr.specs.Decode.{answerOf}
 use Rattle.esr.specs.declared.Answer.{Answer}
-use Rattle.strings.specs.Outcomes.{Outcome, Answers}
-use Rattle.strings.specs.declared.Written.{Written}
+use Rattle.written.specs.Outcomes.{Outcome, Answers}
+use Rattle.written.specs.declared.Written.{Written}
 use Rattle.records.specs.Sets.{setRoom, noRecord}
 use Rattle.records.specs.declared.Records.{Records}
 use Rattle.refusals.specs.Refusals.{carrying, noRefusal, refusalNumber}
@@ -57,7 +57,7 @@ module _ {A : Type 0} (content before : List A) {count : ℕ} (is : count ≡ le
       ap₂ (λ (x : Filled) (l : List A). (x, l)) (e ∙ ap (filledOf noRefusal) is) f
       ∙ simp (le-leb (length content) (length before) (omega arith))
 
--- what is answered with a text of `strings` or `listing`
+-- what is answered with a text of `written` or `listing`
 pub filled-requested : (o : Outcome) (before : List ℕ) {after : List ℕ} {w : Written} {r : Filled} → Answers o before (w, after)
     → r ≡ filledOf (w .refusal) (w .bytes) → (r, after) ≡ filledWith o before
 unfolding filledWith

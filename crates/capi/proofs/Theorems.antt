@@ -12,8 +12,8 @@ use borrow.Author.Tests.{eqb-true, eqb-false}
 use Rattle.entry.proofs.Laws.{facts, body-sound, body-refused}
 use Rattle.entry.specs.Entries.{judged, sound, bodyOf}
 use Rattle.esr.specs.Decode.{answerOf}
-use Rattle.strings.specs.Outcomes.{Outcome, refused, text, refusal, answered, left}
-use Rattle.strings.specs.declared.Written.{Written}
+use Rattle.written.specs.Outcomes.{Outcome, refused, text, refusal, answered, left}
+use Rattle.written.specs.declared.Written.{Written}
 use Rattle.records.specs.Bits.{fieldOf}
 use Rattle.records.specs.declared.Record.{Record}
 use Rattle.refusals.specs.Refusals.{carrying, noRefusal, passed, reasonNumber}

@@ -4,7 +4,7 @@ use mathlib.Core.Bool.{cond}
 use mathlib.Core.List.{List, _++_}
 use lib.Dec.{leb}
 use lib.ListN.{length, drop}
-use Rattle.strings.specs.Outcomes.{Outcome, answered, left}
+use Rattle.written.specs.Outcomes.{Outcome, answered, left}
 use Rattle.refusals.specs.Refusals.{carrying, noRefusal}
 use Rattle.refusals.specs.declared.Reason.the-variants.{ShortBuffer}
 use Rattle.refusals.specs.declared.Refusal.{Refusal}
@@ -24,6 +24,6 @@ filling content before =
     (filledOf noRefusal (length content), front content before)
     (refusing (carrying ShortBuffer (length content)) before)
 
--- a text of the crates `strings` and `listing`, or its refusal: its own answer in numbers, and the buffer as it leaves it
+-- a text of the crates `written` and `listing`, or its refusal: its own answer in numbers, and the buffer as it leaves it
 unfoldable pub filledWith : Outcome → List ℕ → Filled × List ℕ
 filledWith o before = (filledOf (answered o before .refusal) (answered o before .bytes), left o before)

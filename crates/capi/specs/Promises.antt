@@ -4,7 +4,7 @@ use Prim.Native.Nat.{ℕ}
 use mathlib.Core.List.{List}
 use mathlib.Core.Path.{_≡_}
 use Rattle.listing.specs.Requested.{recordLine, listingOf}
-use Rattle.strings.specs.Requested.{valueString, binaryString, messageOf}
+use Rattle.written.specs.Requested.{valueString, binaryString, messageOf}
 use Rattle.texts.specs.Pool.{bytesAt}
 use Rattle.capi.specs.Answers.{numberAnswer, entryAnswer}
 use Rattle.capi.specs.Buffers.{filling, filledWith}

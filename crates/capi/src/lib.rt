@@ -15,7 +15,7 @@ use records::Record;
 use records::Records;
 use refusals::Reason;
 use refusals::Refusal;
-use strings::Written;
+use written::Written;
 
 // How many slots or bytes the front of the caller's array now holds; none on a refusal.
 #[repr(C)]
@@ -56,7 +56,7 @@ fn filled_of(refusal: Refusal, count: usize) -> Filled
     }
 }
 
-// What a function of `strings` or `listing` wrote, or refused.
+// What a function of `written` or `listing` wrote, or refused.
 fn filled_by_text(written: Written) -> Filled
     ensures { λ r. ⌜ r ≡ filledOf (written .refusal) (written .bytes) ⌝ }
 {
@@ -142,21 +142,21 @@ pub extern "C" fn esr_text(code: u16, buf: &mut [u8]) -> Filled
 pub extern "C" fn esr_value_string(width: u64, value: u64, buf: &mut [u8]) -> Filled
     ensures { λ r. ⌜ ValueFilled (width, value, now (buf .entry)) (r, now (buf .exit)) ⌝ }
 {
-    filled_by_text(strings::value_string(width, value, buf))
+    filled_by_text(written::value_string(width, value, buf))
 }
 
 #[no_mangle]
 pub extern "C" fn esr_value_binary_string(width: u64, value: u64, buf: &mut [u8]) -> Filled
     ensures { λ r. ⌜ BinaryFilled (width, value, now (buf .entry)) (r, now (buf .exit)) ⌝ }
 {
-    filled_by_text(strings::value_binary_string(width, value, buf))
+    filled_by_text(written::value_binary_string(width, value, buf))
 }
 
 #[no_mangle]
 pub extern "C" fn esr_message(number: u64, carried: u64, buf: &mut [u8]) -> Filled
     ensures { λ r. ⌜ MessageFilled (number, carried, now (buf .entry)) (r, now (buf .exit)) ⌝ }
 {
-    filled_by_text(strings::message(number, carried, buf))
+    filled_by_text(written::message(number, carried, buf))
 }
 
 #[no_mangle]

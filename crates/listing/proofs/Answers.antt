@@ -12,7 +12,7 @@ use Rattle.records.specs.declared.Record.{Record}
 use Rattle.esr.specs.Decode.{answerOf}
 use Rattle.esr.specs.declared.Answer.{Answer}
 use Rattle.esr.proofs.Laws.{answer-room}
-use Rattle.strings.specs.Outcomes.{refused, text}
+use Rattle.written.specs.Outcomes.{refused, text}
 use Rattle.listing.specs.Requested.{lineIn, recordLine, listingOf}
 use Rattle.display.specs.Listings.{lineText, listing}
 use Rattle.texts.specs.Pool.{bytesAt}

@@ -1,6 +1,6 @@
 -- Each promise of this crate decides its answer and the buffer: it says what both are.
 use Rattle.promise.specs.Promise.{Decides}
-use Rattle.strings.proofs.Decides.{only}
+use Rattle.written.proofs.Decides.{only}
 use Rattle.listing.specs.Promises.{Listing, RecordLine}
 
 pub record-line-decides : Decides RecordLine

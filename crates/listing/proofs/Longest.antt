@@ -25,7 +25,7 @@ use Rattle.tables.proofs.Sound.{always, always-at}
 use Rattle.esr.specs.Decode.{refused, accepted, recordsFor, answerOf}
 use Rattle.esr.specs.declared.Answer.{Answer}
 use Rattle.esr.proofs.Laws.{answer-has}
-use Rattle.strings.specs.Outcomes as outcome
+use Rattle.written.specs.Outcomes as outcome
 use Rattle.strings.proofs.Cases.{field-most, field-short}
 use Rattle.listing.specs.Requested.{listingOf}
 use Rattle.buffer.specs.InOrder.{eachFrom}

@@ -2,8 +2,8 @@
 use Prim.Native.Nat.{ℕ}
 use mathlib.Core.List.{List}
 use Rattle.listing.specs.Requested.{recordLine, listingOf}
-use Rattle.strings.specs.Outcomes.{Answers}
-use Rattle.strings.specs.declared.Written.{Written}
+use Rattle.written.specs.Outcomes.{Answers}
+use Rattle.written.specs.declared.Written.{Written}
 
 abbrev pub RecordLine : ℕ × ℕ × List ℕ → Written × List ℕ → Type 0
 RecordLine (esr, index, before) out = Answers (recordLine esr index) before out

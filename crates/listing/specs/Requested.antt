@@ -12,7 +12,7 @@ use Rattle.records.specs.declared.Record.{Record}
 use Rattle.esr.specs.Decode.{answerOf}
 use Rattle.display.specs.Listings.{lineText, listing}
 use Rattle.texts.specs.Pool.{bytesAt}
-use Rattle.strings.specs.Outcomes.{Outcome, refused, text}
+use Rattle.written.specs.Outcomes.{Outcome, refused, text}
 
 unfoldable pub lineIn : List Record → ℕ → Outcome
 lineIn rs index = cond (ltb index (length rs)) (text (lineText bytesAt (getD rs index noRecord))) (refused (carrying BadIndex (length rs)))

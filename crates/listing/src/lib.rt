@@ -5,7 +5,7 @@ use display::put_line;
 use display::put_listing;
 use refusals::Reason;
 use refusals::Refusal;
-use strings::Written;
+use written::Written;
 
 // The Rust's Display of one record; the index is flat, ISS's own records from 5 on.
 pub fn record_line(esr: u64, index: usize, buf: &mut [u8]) -> Written

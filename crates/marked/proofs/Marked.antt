@@ -27,7 +27,7 @@ use Rattle.display.specs.Listings.{indentAt, lineText, textLine, recordLines}
 use Rattle.buffer.specs.InOrder.{eachFrom}
 use Rattle.digits.specs.Digits.{digitChar, digitsOf}
 use Rattle.strings.specs.Fields.{valueText, binaryText, binarySuffix, fieldText}
-use Rattle.strings.specs.Outcomes.{Outcome, text as inFull, answered, left}
+use Rattle.written.specs.Outcomes.{Outcome, text as inFull, answered, left}
 use Rattle.number.specs.Digits.{digitOf}
 use Rattle.number.specs.Numbers.{numberOf, numberIn, readDigits, readDigit, startsWith}
 use Rattle.number.specs.declared.Number.{Number}

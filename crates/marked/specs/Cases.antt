@@ -13,7 +13,7 @@ use Rattle.records.specs.declared.Record.{Record}
 use Rattle.esr.specs.Promises.{Decoded}
 use Rattle.esr.specs.declared.Answer.{Answer}
 use Rattle.listing.specs.Promises.{Listing}
-use Rattle.strings.specs.declared.Written.{Written}
+use Rattle.written.specs.declared.Written.{Written}
 use Rattle.number.specs.Promises.{Parsed}
 use Rattle.number.specs.declared.Number.{Number}
 

@@ -1,31 +1,13 @@
--- Each promise of this crate decides its answer and the buffer: it says what both are.
-use mathlib.Core.Path.{_≡_, ap₂}
-use mathlib.Core.List.{List}
-use Prim.Native.Nat.{ℕ}
+-- Each promise of this crate decides the next offset and the buffer: it says what both are.
 use Rattle.promise.proofs.Laws.{same}
 use Rattle.promise.specs.Promise.{Decides}
-use Rattle.strings.specs.Outcomes.{Outcome, Answers}
-use Rattle.strings.specs.Promises.{BinaryString, FieldPut, Message, MessagePut, ValueString, WrittenRefused}
-use Rattle.strings.specs.declared.Written.{Written}
+use Rattle.strings.specs.Promises.{FieldPut, MessagePut, StringPut}
 
--- an outcome and a buffer leave one answer and one buffer
-pub only : (o : Outcome) (before : List ℕ) → (a b : Written × List ℕ) → Answers o before a → Answers o before b → a ≡ b
-only o before a b p q = ap₂ (λ (r : Written) (after : List ℕ). (r, after)) (same (p .0) (q .0)) (same (p .1) (q .1))
-
-pub value-string-decides : Decides ValueString
-value-string-decides (width, value, before) = only _ before
-
-pub value-binary-string-decides : Decides BinaryString
-value-binary-string-decides (width, value, before) = only _ before
-
-pub message-decides : Decides Message
-message-decides (number, carried, before) = only _ before
-
-pub Written-refused-decides : Decides WrittenRefused
-Written-refused-decides (reason, carries) a b = same
-
-pub put-message-decides : Decides MessagePut
-put-message-decides (before, at, lent, starting, number, carried) a b p q = same (p .is) (q .is)
+pub put-string-decides : Decides StringPut
+put-string-decides (before, at, form, width, value) a b p q = same (p .is) (q .is)
 
 pub put-field-decides : Decides FieldPut
 put-field-decides (before, at, width, value) a b p q = same (p .is) (q .is)
+
+pub put-message-decides : Decides MessagePut
+put-message-decides (before, at, lent, starting, number, carried) a b p q = same (p .is) (q .is)

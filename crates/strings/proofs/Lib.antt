@@ -1,5 +1,3 @@
 pub mod Cases
 pub mod Messages
-pub mod Answers
-pub mod Kept
 pub mod Decides

@@ -1,10 +1,12 @@
 -- A field's two value strings, and both as they stand in a record's line.
-use Prim.Native.Nat.{ℕ, _+_, _/_, _^_}
-use mathlib.Core.Bool.{Bool, cond, _&&_}
+use Prim.Native.Nat.{ℕ, _+_, _/_}
+use mathlib.Core.Bool.{cond}
 use mathlib.Core.List.{List, [], _++_}
-use lib.Dec.{eqb, ltb, leb}
+use lib.Dec.{eqb}
 use Rattle.texts.specs.Pool.{bytes}
 use Rattle.digits.specs.Digits.{digitsOf}
+use Rattle.strings.specs.declared.Form.{Form}
+use Rattle.strings.specs.declared.Form.the-variants.{Value, Binary}
 
 -- "width 1 prints true or false, wider "0x" and ceil(width/4) digits, small letters"
 unfoldable pub valueText : ℕ → ℕ → List ℕ
@@ -17,6 +19,11 @@ valueText width value =
 unfoldable pub binaryText : ℕ → ℕ → List ℕ
 binaryText width value = bytes "0b" ++ digitsOf 2 width value
 
+-- either, by which of the two it is
+abbrev pub stringText : Form → ℕ → ℕ → List ℕ
+stringText Value width value = valueText width value
+stringText Binary width value = binaryText width value
+
 -- "A record's line is name, ": " and the value"; where it is wider than 1, "a space, "0b" and width digits"
 unfoldable pub binarySuffix : ℕ → ℕ → List ℕ
 binarySuffix width value = cond (eqb width 1) [] (bytes " " ++ binaryText width value)
@@ -24,7 +31,3 @@ binarySuffix width value = cond (eqb width 1) [] (bytes " " ++ binaryText width 
 -- the value as it stands in the line
 unfoldable pub fieldText : ℕ → ℕ → List ℕ
 fieldText width value = valueText width value ++ binarySuffix width value
-
--- "width not 1..64, value not below 2^width": 12
-unfoldable pub fits : ℕ → ℕ → Bool
-fits width value = leb 1 width && (leb width 64 && ltb value (2 ^ width))

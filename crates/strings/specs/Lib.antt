@@ -1,5 +1,3 @@
 pub mod Fields
 pub mod Messages
-pub mod Outcomes
-pub mod Requested
 pub mod Promises

@@ -10,7 +10,7 @@ use number::NumberState;
 use records::Records;
 use refusals::Reason;
 use refusals::Refusal;
-use strings::Written;
+use written::Written;
 
 // Longer than any listing by more than MORE: a part of it that a call wants and it has not counts as wrong.
 const ROOM: usize = 4096;
@@ -53,9 +53,9 @@ fn answer(made: Call, buf: &mut [u8]) -> Written {
     match function {
         LISTING => return listing::listing(made.first, buf),
         RECORD_LINE => return listing::record_line(made.first, made.second as usize, buf),
-        MESSAGE => return strings::message(made.first, made.second, buf),
-        VALUE => return strings::value_string(made.first, made.second, buf),
-        _ => return strings::value_binary_string(made.first, made.second, buf),
+        MESSAGE => return written::message(made.first, made.second, buf),
+        VALUE => return written::value_string(made.first, made.second, buf),
+        _ => return written::value_binary_string(made.first, made.second, buf),
     }
 }
 

@@ -1,4 +1,4 @@
--- The answer of `strings::message`, in C's numbers; the buffer is what it left.
+-- The answer of `written::message`, in C's numbers; the buffer is what it left.
 use Rattle.capi.proofs.Laws.{filled-requested}
 use borrow.Author.Needs.{needs}
 use Rattle.capi.proofs.esr_message.Statement.{statement}

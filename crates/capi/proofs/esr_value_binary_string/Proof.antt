@@ -1,4 +1,4 @@
--- The answer of `strings::value_binary_string`, in C's numbers; the buffer is what it left.
+-- The answer of `written::value_binary_string`, in C's numbers; the buffer is what it left.
 use Rattle.capi.proofs.Laws.{filled-requested}
 use borrow.Author.Needs.{needs}
 use Rattle.capi.proofs.esr_value_binary_string.Statement.{statement}

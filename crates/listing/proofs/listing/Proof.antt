@@ -5,7 +5,7 @@ use Rattle.display.proofs.Cases.{listing-lent}
 use Rattle.records.specs.Sets.{listOf}
 use Rattle.listing.proofs.Answers.{listing-no, listing-yes}
 use Rattle.listing.proofs.Longest.{small}
-use Rattle.strings.proofs.Kept.{by-refusal, by-shortness, by-writing}
+use Rattle.written.proofs.Kept.{by-refusal, by-shortness, by-writing}
 use Rattle.listing.proofs.listing.Statement.{statement}
 use Rattle.listing.proofs.listing.Tie as tie
 

@@ -10,7 +10,7 @@ use Rattle.records.proofs.Laws.{long-as}
 use Rattle.texts.specs.Pool.{bytesAt}
 use Rattle.listing.proofs.Answers.{line-refused, line-no, line-yes}
 use Rattle.listing.proofs.Longest.{line-small}
-use Rattle.strings.proofs.Kept.{by-refusal, by-shortness, by-writing}
+use Rattle.written.proofs.Kept.{by-refusal, by-shortness, by-writing}
 use Rattle.listing.proofs.record_line.Statement.{statement}
 use Rattle.listing.proofs.record_line.Tie as tie
 

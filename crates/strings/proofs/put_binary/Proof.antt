@@ -3,8 +3,8 @@ use borrow.Author.Needs.{needs}
 use Rattle.buffer.proofs.Appending.{and-then}
 use Rattle.strings.specs.Fields.{binaryText}
 use Rattle.texts.specs.Pool.{bytes}
-use Rattle.strings.proofs.field.put_binary.Statement.{statement}
-use Rattle.strings.proofs.field.put_binary.Tie as tie
+use Rattle.strings.proofs.put_binary.Statement.{statement}
+use Rattle.strings.proofs.put_binary.Tie as tie
 
 returns : tie.Need-returns
 unfolding binaryText bytes

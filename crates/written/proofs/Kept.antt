@@ -8,10 +8,10 @@ use lib.ListN.{length}
 use Rattle.refusals.specs.Refusals.{carrying, noRefusal}
 use Rattle.refusals.specs.declared.Reason.the-variants.{ShortBuffer}
 use Rattle.refusals.specs.declared.Refusal.{Refusal}
-use Rattle.strings.specs.Outcomes.{Outcome, refused, text, refusal, answered, left, Answers}
+use Rattle.written.specs.Outcomes.{Outcome, refused, text, refusal, answered, left, Answers}
 use Rattle.buffer.specs.Appending.{Appends}
 use Rattle.buffer.proofs.Appending.{measured, written}
-use Rattle.strings.specs.declared.Written.{Written}
+use Rattle.written.specs.declared.Written.{Written}
 
 module _ {o : Outcome} {b : List ℕ} {r : Written} where
   pub by-refusal : {f : Refusal} → o ≡ refused f → r ≡ refusal f → Answers o b (r, b)

@@ -9,7 +9,7 @@ use lib.ListN.{length, drop}
 use Rattle.refusals.specs.Refusals.{carrying, noRefusal}
 use Rattle.refusals.specs.declared.Reason.the-variants.{ShortBuffer}
 use Rattle.refusals.specs.declared.Refusal.{Refusal}
-use Rattle.strings.specs.declared.Written.{Written}
+use Rattle.written.specs.declared.Written.{Written}
 
 -- what is asked for, before the room is looked at
 pub data Outcome : Type 0 where

@@ -3,8 +3,8 @@ use borrow.Author.Needs.{needs}
 use Rattle.buffer.proofs.Appending.{and-then}
 use Rattle.strings.proofs.Cases.{value-true, value-false, value-wide}
 use Rattle.texts.specs.Pool.{bytes}
-use Rattle.strings.proofs.field.put_value.Statement.{statement}
-use Rattle.strings.proofs.field.put_value.Tie as tie
+use Rattle.strings.proofs.put_value.Statement.{statement}
+use Rattle.strings.proofs.put_value.Tie as tie
 
 returns : tie.Need-returns
 unfolding bytes

@@ -1,13 +1,12 @@
 -- The number has a message or is refused; then it is measured; then it is written, or the buffer is too short.
 use borrow.Author.Needs.{needs}
-use native.Mathlib.Omega.{arith}
 use mathlib.Core.Path.{refl, sym, _∙_}
 use borrow.Author.Tests.{not-true, not-false}
-use Rattle.strings.proofs.Answers.{message-no, message-yes}
 use Rattle.strings.proofs.Cases.{message-lent, message-small}
-use Rattle.strings.proofs.Kept.{by-refusal, by-shortness, by-writing}
-use Rattle.strings.proofs.message.Statement.{statement}
-use Rattle.strings.proofs.message.Tie as tie
+use Rattle.written.proofs.Answers.{message-no, message-yes}
+use Rattle.written.proofs.Kept.{by-refusal, by-shortness, by-writing}
+use Rattle.written.proofs.message.Statement.{statement}
+use Rattle.written.proofs.message.Tie as tie
 
 returns : tie.Need-returns
 returns c = by-refusal (message-no _ _ (sym (c .before .before .describes .ensures) ∙ not-true _ (c .before .if1 .taken))) (c .refused .ensures)

@@ -1,0 +1,4 @@
+pub mod Widths
+pub mod Answers
+pub mod Kept
+pub mod Decides
