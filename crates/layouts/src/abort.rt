@@ -1,4 +1,5 @@
-// The layouts of instruction and data aborts. Their rows stand in the order of 01's table, each once, and a layout lists those that it has.
+// The layouts of instruction and data aborts. A row is made in front of the layouts that have it, in the order of 01's table: past a return it is taken back, which the
+// prover does row by row.
 ghost use Rattle.layouts.specs.Layouts.{layoutFor};
 ghost use Rattle.promise.specs.Member.{member};
 ghost use Rattle.tables.specs.Shape.{externals};
@@ -23,39 +24,40 @@ pub(crate) fn decode_iss_instruction_abort(iss: u64) -> Layout
     ensures { λ r. ⌜ r ≡ layoutFor instructionAbort iss ⌝ }
 {
     let res0_15 = rows::RES0_15_25;
-    let pfv = rows::PFV;
-    let res0_14 = rows::RES0_14_15;
     let res0_13 = rows::RES0_13_14;
-    let set = rows::SET;
-    let res0_11 = rows::RES0_11_13_UNCHECKED;
     let fnv = rows::FNV;
     let ea = rows::EA;
     let res0_8 = rows::RES0_8_9;
     let s1ptw = rows::S1PTW;
     let res0_6 = rows::RES0_6_7;
     let ifsc = rows::IFSC;
-    let pad = rows::PAD;
+    let o = rows::PAD;
     let status = records::field(iss, 0, 6);
     if status == 0x10 {
+        let pfv = rows::PFV;
+        let set = rows::SET;
         return Layout {
-            rows: [res0_15, pfv, res0_13, set, fnv, ea, res0_8, s1ptw, res0_6, ifsc, pad, pad, pad, pad],
+            rows: [res0_15, pfv, res0_13, set, fnv, ea, res0_8, s1ptw, res0_6, ifsc, o, o, o, o],
             count: 10,
             checks: [0, 6, 8, 9, 2, 3, 0, 0, 0, 0, 0, 0, 0, 0],
             checked: 6,
             rule: r::PLAIN,
         };
     }
+    let res0_11 = rows::RES0_11_13_UNCHECKED;
     if is_external_abort_fsc(status) {
+        let pfv = rows::PFV;
         return Layout {
-            rows: [res0_15, pfv, res0_13, res0_11, fnv, ea, res0_8, s1ptw, res0_6, ifsc, pad, pad, pad, pad],
+            rows: [res0_15, pfv, res0_13, res0_11, fnv, ea, res0_8, s1ptw, res0_6, ifsc, o, o, o, o],
             count: 10,
             checks: [0, 6, 8, 9, 2, 0, 0, 0, 0, 0, 0, 0, 0, 0],
             checked: 5,
             rule: r::PLAIN,
         };
     }
+    let res0_14 = rows::RES0_14_15;
     Layout {
-        rows: [res0_15, res0_14, res0_13, res0_11, fnv, ea, res0_8, s1ptw, res0_6, ifsc, pad, pad, pad, pad],
+        rows: [res0_15, res0_14, res0_13, res0_11, fnv, ea, res0_8, s1ptw, res0_6, ifsc, o, o, o, o],
         count: 10,
         checks: [0, 6, 8, 9, 1, 2, 0, 0, 0, 0, 0, 0, 0, 0],
         checked: 6,
@@ -68,32 +70,22 @@ pub(crate) fn decode_iss_data_abort(iss: u64) -> Layout
     ensures { λ r. ⌜ r ≡ layoutFor dataAbort iss ⌝ }
 {
     let isv = rows::ISV;
-    let sas = rows::SAS;
-    let sse = rows::SSE;
-    let srt = rows::SRT;
-    let sf = rows::SF;
-    let ar = rows::AR;
-    let res0_21 = rows::RES0_21_24;
-    let res0_18 = rows::RES0_18_21;
-    let wu = rows::WU;
-    let res0_16 = rows::RES0_16_21;
-    let fnp = rows::FNP;
-    let fnp_not_valid = rows::FNP_NOT_VALID;
-    let pfv = rows::PFV;
-    let res0_14 = rows::RES0_14_15;
     let vncr = rows::VNCR;
-    let set = rows::SET;
-    let res0_11 = rows::RES0_11_13_UNCHECKED;
     let fnv = rows::FNV;
     let ea = rows::EA;
     let cm = rows::CM;
     let s1ptw = rows::S1PTW;
     let wnr = rows::WNR;
     let dfsc = rows::DFSC;
-    let pad = rows::PAD;
     let status = records::field(iss, 0, 6);
     if records::as_bit(iss, 24) {
+        let sas = rows::SAS;
+        let sse = rows::SSE;
+        let srt = rows::SRT;
+        let sf = rows::SF;
+        let ar = rows::AR;
         if status == 0x10 {
+            let set = rows::SET;
             return Layout {
                 rows: [isv, sas, sse, srt, sf, ar, vncr, set, fnv, ea, cm, s1ptw, wnr, dfsc],
                 count: 14,
@@ -102,6 +94,7 @@ pub(crate) fn decode_iss_data_abort(iss: u64) -> Layout
                 rule: r::PLAIN,
             };
         }
+        let res0_11 = rows::RES0_11_13_UNCHECKED;
         return Layout {
             rows: [isv, sas, sse, srt, sf, ar, vncr, res0_11, fnv, ea, cm, s1ptw, wnr, dfsc],
             count: 14,
@@ -110,8 +103,15 @@ pub(crate) fn decode_iss_data_abort(iss: u64) -> Layout
             rule: r::PLAIN,
         };
     }
+    let res0_21 = rows::RES0_21_24;
+    let res0_18 = rows::RES0_18_21;
+    let wu = rows::WU;
+    let fnp = rows::FNP;
+    let pfv = rows::PFV;
     if status == 0x10 {
+        let set = rows::SET;
         if records::as_bit(iss, 10) {
+            let fnp_not_valid = rows::FNP_NOT_VALID;
             return Layout {
                 rows: [isv, res0_21, res0_18, wu, fnp_not_valid, pfv, vncr, set, fnv, ea, cm, s1ptw, wnr, dfsc],
                 count: 14,
@@ -128,6 +128,7 @@ pub(crate) fn decode_iss_data_abort(iss: u64) -> Layout
             rule: r::PLAIN,
         };
     }
+    let res0_11 = rows::RES0_11_13_UNCHECKED;
     if is_external_abort_fsc(status) {
         return Layout {
             rows: [isv, res0_21, res0_18, wu, fnp, pfv, vncr, res0_11, fnv, ea, cm, s1ptw, wnr, dfsc],
@@ -137,8 +138,11 @@ pub(crate) fn decode_iss_data_abort(iss: u64) -> Layout
             rule: r::PLAIN,
         };
     }
+    let res0_16 = rows::RES0_16_21;
+    let res0_14 = rows::RES0_14_15;
+    let o = rows::PAD;
     Layout {
-        rows: [isv, res0_21, res0_16, fnp, res0_14, vncr, res0_11, fnv, ea, cm, s1ptw, wnr, dfsc, pad],
+        rows: [isv, res0_21, res0_16, fnp, res0_14, vncr, res0_11, fnv, ea, cm, s1ptw, wnr, dfsc, o],
         count: 13,
         checks: [1, 2, 4, 12, 0, 0, 0, 0, 0, 0, 0, 0, 0, 0],
         checked: 4,

@@ -10,24 +10,11 @@ use texts::rules as r;
 pub(crate) fn decode_iss_breakpoint_vector_catch(iss: u64) -> Layout
     ensures { λ r. ⌜ r ≡ layoutFor breakpoint iss ⌝ }
 {
-    let pad = rows::PAD;
+    let res0 = rows::RES0_6_25;
+    let ifsc = rows::IFSC_DEBUG;
+    let o = rows::PAD;
     Layout {
-        rows: [
-            rows::RES0_6_25,
-            rows::IFSC_DEBUG,
-            pad,
-            pad,
-            pad,
-            pad,
-            pad,
-            pad,
-            pad,
-            pad,
-            pad,
-            pad,
-            pad,
-            pad,
-        ],
+        rows: [res0, ifsc, o, o, o, o, o, o, o, o, o, o, o, o],
         count: 2,
         checks: [0, 1, 0, 0, 0, 0, 0, 0, 0, 0, 0, 0, 0, 0],
         checked: 2,
@@ -41,51 +28,21 @@ pub(crate) fn decode_iss_software_step(iss: u64) -> Layout
 {
     let isv = rows::ISV_STEP;
     let res0_7 = rows::RES0_7_24;
-    let ex = rows::EX;
-    let res0_6 = rows::RES0_6_7_STEP;
     let ifsc = rows::IFSC_DEBUG;
-    let pad = rows::PAD;
+    let o = rows::PAD;
     if records::as_bit(iss, 24) {
+        let ex = rows::EX;
         return Layout {
-            rows: [
-                isv,
-                res0_7,
-                ex,
-                ifsc,
-                pad,
-                pad,
-                pad,
-                pad,
-                pad,
-                pad,
-                pad,
-                pad,
-                pad,
-                pad,
-            ],
+            rows: [isv, res0_7, ex, ifsc, o, o, o, o, o, o, o, o, o, o],
             count: 4,
             checks: [1, 3, 0, 0, 0, 0, 0, 0, 0, 0, 0, 0, 0, 0],
             checked: 2,
             rule: r::PLAIN,
         };
     }
+    let res0_6 = rows::RES0_6_7_STEP;
     Layout {
-        rows: [
-            isv,
-            res0_7,
-            res0_6,
-            ifsc,
-            pad,
-            pad,
-            pad,
-            pad,
-            pad,
-            pad,
-            pad,
-            pad,
-            pad,
-            pad,
-        ],
+        rows: [isv, res0_7, res0_6, ifsc, o, o, o, o, o, o, o, o, o, o],
         count: 4,
         checks: [1, 2, 3, 0, 0, 0, 0, 0, 0, 0, 0, 0, 0, 0],
         checked: 3,
@@ -97,24 +54,17 @@ pub(crate) fn decode_iss_software_step(iss: u64) -> Layout
 pub(crate) fn decode_iss_watchpoint(iss: u64) -> Layout
     ensures { λ r. ⌜ r ≡ layoutFor watchpoint iss ⌝ }
 {
-    let pad = rows::PAD;
+    let r15 = rows::RES0_15_25;
+    let r14 = rows::RES0_14_15;
+    let vncr = rows::VNCR;
+    let r9 = rows::RES0_9_13;
+    let cm = rows::CM;
+    let r7 = rows::RES0_7_8;
+    let wnr = rows::WNR_WATCH;
+    let dfsc = rows::DFSC_DEBUG;
+    let o = rows::PAD;
     Layout {
-        rows: [
-            rows::RES0_15_25,
-            rows::RES0_14_15,
-            rows::VNCR,
-            rows::RES0_9_13,
-            rows::CM,
-            rows::RES0_7_8,
-            rows::WNR_WATCH,
-            rows::DFSC_DEBUG,
-            pad,
-            pad,
-            pad,
-            pad,
-            pad,
-            pad,
-        ],
+        rows: [r15, r14, vncr, r9, cm, r7, wnr, dfsc, o, o, o, o, o, o],
         count: 8,
         checks: [0, 1, 3, 5, 7, 0, 0, 0, 0, 0, 0, 0, 0, 0],
         checked: 5,
@@ -126,24 +76,11 @@ pub(crate) fn decode_iss_watchpoint(iss: u64) -> Layout
 pub(crate) fn decode_iss_breakpoint(iss: u64) -> Layout
     ensures { λ r. ⌜ r ≡ layoutFor brk iss ⌝ }
 {
-    let pad = rows::PAD;
+    let res0 = rows::RES0_16_25;
+    let comment = rows::COMMENT;
+    let o = rows::PAD;
     Layout {
-        rows: [
-            rows::RES0_16_25,
-            rows::COMMENT,
-            pad,
-            pad,
-            pad,
-            pad,
-            pad,
-            pad,
-            pad,
-            pad,
-            pad,
-            pad,
-            pad,
-            pad,
-        ],
+        rows: [res0, comment, o, o, o, o, o, o, o, o, o, o, o, o],
         count: 2,
         checks: [0, 0, 0, 0, 0, 0, 0, 0, 0, 0, 0, 0, 0, 0],
         checked: 1,

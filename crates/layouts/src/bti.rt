@@ -10,24 +10,11 @@ use texts::rules as r;
 pub(crate) fn decode_iss_bti(iss: u64) -> Layout
     ensures { λ r. ⌜ r ≡ layoutFor bti iss ⌝ }
 {
-    let pad = rows::PAD;
+    let res0 = rows::RES0_2_25;
+    let btype = rows::BTYPE;
+    let o = rows::PAD;
     Layout {
-        rows: [
-            rows::RES0_2_25,
-            rows::BTYPE,
-            pad,
-            pad,
-            pad,
-            pad,
-            pad,
-            pad,
-            pad,
-            pad,
-            pad,
-            pad,
-            pad,
-            pad,
-        ],
+        rows: [res0, btype, o, o, o, o, o, o, o, o, o, o, o, o],
         count: 2,
         checks: [0, 0, 0, 0, 0, 0, 0, 0, 0, 0, 0, 0, 0, 0],
         checked: 1,

@@ -10,24 +10,20 @@ use texts::rules as r;
 pub(crate) fn decode_iss_fp(iss: u64) -> Layout
     ensures { λ r. ⌜ r ≡ layoutFor fp iss ⌝ }
 {
-    let pad = rows::PAD;
+    let a = rows::RES0_24_25;
+    let tfv = rows::TFV;
+    let b = rows::RES0_11_23;
+    let vec = rows::VECITR;
+    let idf = rows::IDF;
+    let c = rows::RES0_5_7;
+    let ixf = rows::IXF;
+    let uff = rows::UFF;
+    let off = rows::OFF;
+    let dzf = rows::DZF;
+    let iof = rows::IOF;
+    let o = rows::PAD;
     Layout {
-        rows: [
-            rows::RES0_24_25,
-            rows::TFV,
-            rows::RES0_11_23,
-            rows::VECITR,
-            rows::IDF,
-            rows::RES0_5_7,
-            rows::IXF,
-            rows::UFF,
-            rows::OFF,
-            rows::DZF,
-            rows::IOF,
-            pad,
-            pad,
-            pad,
-        ],
+        rows: [a, tfv, b, vec, idf, c, ixf, uff, off, dzf, iof, o, o, o],
         count: 11,
         checks: [0, 2, 5, 0, 0, 0, 0, 0, 0, 0, 0, 0, 0, 0],
         checked: 3,

@@ -10,24 +10,11 @@ use texts::rules as r;
 pub(crate) fn decode_iss_hvc(iss: u64) -> Layout
     ensures { λ r. ⌜ r ≡ layoutFor hvc iss ⌝ }
 {
-    let pad = rows::PAD;
+    let res0 = rows::RES0_16_25;
+    let imm16 = rows::IMM16;
+    let o = rows::PAD;
     Layout {
-        rows: [
-            rows::RES0_16_25,
-            rows::IMM16,
-            pad,
-            pad,
-            pad,
-            pad,
-            pad,
-            pad,
-            pad,
-            pad,
-            pad,
-            pad,
-            pad,
-            pad,
-        ],
+        rows: [res0, imm16, o, o, o, o, o, o, o, o, o, o, o, o],
         count: 2,
         checks: [0, 0, 0, 0, 0, 0, 0, 0, 0, 0, 0, 0, 0, 0],
         checked: 1,

@@ -10,24 +10,10 @@ use texts::rules as r;
 pub(crate) fn decode_iss_ld64b(iss: u64) -> Layout
     ensures { λ r. ⌜ r ≡ layoutFor ld64b iss ⌝ }
 {
-    let pad = rows::PAD;
+    let iss_row = rows::ISS;
+    let o = rows::PAD;
     Layout {
-        rows: [
-            rows::ISS,
-            pad,
-            pad,
-            pad,
-            pad,
-            pad,
-            pad,
-            pad,
-            pad,
-            pad,
-            pad,
-            pad,
-            pad,
-            pad,
-        ],
+        rows: [iss_row, o, o, o, o, o, o, o, o, o, o, o, o, o],
         count: 1,
         checks: [0, 0, 0, 0, 0, 0, 0, 0, 0, 0, 0, 0, 0, 0],
         checked: 1,

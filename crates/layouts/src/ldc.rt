@@ -10,24 +10,17 @@ use texts::rules as r;
 pub(crate) fn decode_iss_ldc(iss: u64) -> Layout
     ensures { λ r. ⌜ r ≡ layoutFor ldc iss ⌝ }
 {
-    let pad = rows::PAD;
+    let cv = rows::CV;
+    let cond = rows::COND;
+    let imm8 = rows::IMM8;
+    let res0 = rows::RES0_10_12;
+    let rn = rows::RN_LDC;
+    let off = rows::OFFSET;
+    let am = rows::AM;
+    let dir = rows::DIRECTION_LDC;
+    let o = rows::PAD;
     Layout {
-        rows: [
-            rows::CV,
-            rows::COND,
-            rows::IMM8,
-            rows::RES0_10_12,
-            rows::RN_LDC,
-            rows::OFFSET,
-            rows::AM,
-            rows::DIRECTION_LDC,
-            pad,
-            pad,
-            pad,
-            pad,
-            pad,
-            pad,
-        ],
+        rows: [cv, cond, imm8, res0, rn, off, am, dir, o, o, o, o, o, o],
         count: 8,
         checks: [3, 6, 0, 0, 0, 0, 0, 0, 0, 0, 0, 0, 0, 0],
         checked: 2,

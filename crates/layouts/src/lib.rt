@@ -37,24 +37,10 @@ pub struct Layout {
 fn decode_iss_res0(iss: u64) -> Layout
     ensures { λ r. ⌜ r ≡ layoutFor res0 iss ⌝ }
 {
-    let pad = rows::PAD;
+    let res0 = rows::RES0_ISS;
+    let o = rows::PAD;
     Layout {
-        rows: [
-            rows::RES0_ISS,
-            pad,
-            pad,
-            pad,
-            pad,
-            pad,
-            pad,
-            pad,
-            pad,
-            pad,
-            pad,
-            pad,
-            pad,
-            pad,
-        ],
+        rows: [res0, o, o, o, o, o, o, o, o, o, o, o, o, o],
         count: 1,
         checks: [0, 0, 0, 0, 0, 0, 0, 0, 0, 0, 0, 0, 0, 0],
         checked: 1,

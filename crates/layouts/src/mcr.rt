@@ -10,24 +10,17 @@ use texts::rules as r;
 pub(crate) fn decode_iss_mcr(iss: u64) -> Layout
     ensures { λ r. ⌜ r ≡ layoutFor mcr iss ⌝ }
 {
-    let pad = rows::PAD;
+    let cv = rows::CV;
+    let cond = rows::COND;
+    let opc2 = rows::OPC2;
+    let opc1 = rows::OPC1;
+    let crn = rows::CRN;
+    let rt = rows::RT;
+    let crm = rows::CRM;
+    let dir = rows::DIRECTION_MCR;
+    let o = rows::PAD;
     Layout {
-        rows: [
-            rows::CV,
-            rows::COND,
-            rows::OPC2,
-            rows::OPC1,
-            rows::CRN,
-            rows::RT,
-            rows::CRM,
-            rows::DIRECTION_MCR,
-            pad,
-            pad,
-            pad,
-            pad,
-            pad,
-            pad,
-        ],
+        rows: [cv, cond, opc2, opc1, crn, rt, crm, dir, o, o, o, o, o, o],
         count: 8,
         checks: [0, 0, 0, 0, 0, 0, 0, 0, 0, 0, 0, 0, 0, 0],
         checked: 0,
@@ -39,24 +32,17 @@ pub(crate) fn decode_iss_mcr(iss: u64) -> Layout
 pub(crate) fn decode_iss_mcrr(iss: u64) -> Layout
     ensures { λ r. ⌜ r ≡ layoutFor mcrr iss ⌝ }
 {
-    let pad = rows::PAD;
+    let cv = rows::CV;
+    let cond = rows::COND;
+    let opc2 = rows::OPC2_MCRR;
+    let res0 = rows::RES0_15_16;
+    let rt2 = rows::RT2;
+    let rt = rows::RT;
+    let crm = rows::CRM;
+    let dir = rows::DIRECTION_MCR;
+    let o = rows::PAD;
     Layout {
-        rows: [
-            rows::CV,
-            rows::COND,
-            rows::OPC2_MCRR,
-            rows::RES0_15_16,
-            rows::RT2,
-            rows::RT,
-            rows::CRM,
-            rows::DIRECTION_MCR,
-            pad,
-            pad,
-            pad,
-            pad,
-            pad,
-            pad,
-        ],
+        rows: [cv, cond, opc2, res0, rt2, rt, crm, dir, o, o, o, o, o, o],
         count: 8,
         checks: [3, 0, 0, 0, 0, 0, 0, 0, 0, 0, 0, 0, 0, 0],
         checked: 1,

@@ -10,24 +10,9 @@ use texts::rules as r;
 pub(crate) fn decode_iss_msr(iss: u64) -> Layout
     ensures { λ r. ⌜ r ≡ layoutFor undivided iss ⌝ }
 {
-    let pad = rows::PAD;
+    let o = rows::PAD;
     Layout {
-        rows: [
-            pad,
-            pad,
-            pad,
-            pad,
-            pad,
-            pad,
-            pad,
-            pad,
-            pad,
-            pad,
-            pad,
-            pad,
-            pad,
-            pad,
-        ],
+        rows: [o, o, o, o, o, o, o, o, o, o, o, o, o, o],
         count: 0,
         checks: [0, 0, 0, 0, 0, 0, 0, 0, 0, 0, 0, 0, 0, 0],
         checked: 0,

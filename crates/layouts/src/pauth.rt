@@ -10,24 +10,12 @@ use texts::rules as r;
 pub(crate) fn decode_iss_pauth(iss: u64) -> Layout
     ensures { λ r. ⌜ r ≡ layoutFor pauth iss ⌝ }
 {
-    let pad = rows::PAD;
+    let res0 = rows::RES0_2_25;
+    let i_or_d = rows::I_OR_D;
+    let a_or_b = rows::A_OR_B;
+    let o = rows::PAD;
     Layout {
-        rows: [
-            rows::RES0_2_25,
-            rows::I_OR_D,
-            rows::A_OR_B,
-            pad,
-            pad,
-            pad,
-            pad,
-            pad,
-            pad,
-            pad,
-            pad,
-            pad,
-            pad,
-            pad,
-        ],
+        rows: [res0, i_or_d, a_or_b, o, o, o, o, o, o, o, o, o, o, o],
         count: 3,
         checks: [0, 0, 0, 0, 0, 0, 0, 0, 0, 0, 0, 0, 0, 0],
         checked: 1,

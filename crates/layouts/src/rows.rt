@@ -1,11 +1,11 @@
-// The rows of all layouts, from high bits to low, each once. A routine copies one into a local where it names it more than once: a constant is
-// built anew wherever it is named, and the proof of the routine grows by each.
+// The rows of all layouts, from high bits to low, each once. A routine makes a row in a local, and its layouts copy it: a constant is built
+// anew wherever it is named, and the proof of the routine grows by each.
 use records::Row;
 use records::kinds as k;
 use texts::names as n;
 use texts::rules as r;
 
-// What stands where a layout has no row.
+// What stands where a layout has no row. The routines name it `o`, so that the rows of a layout stand on one line, above the indices of those to check.
 pub(crate) const PAD: Row = Row { start: 0, width: 0, name: n::NONE,      long: n::NONE,           rule: r::PLAIN,         kind: k::FREE };
 
 pub(crate) const CV: Row = Row { start: 24, width: 1, name: n::CV,        long: n::CV_LONG,        rule: r::CV,            kind: k::FREE };

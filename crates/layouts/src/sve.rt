@@ -10,24 +10,12 @@ use texts::rules as r;
 pub(crate) fn decode_iss_sve(iss: u64) -> Layout
     ensures { λ r. ⌜ r ≡ layoutFor sve iss ⌝ }
 {
-    let pad = rows::PAD;
+    let cv = rows::CV;
+    let cond = rows::COND;
+    let res0 = rows::RES0_0_20;
+    let o = rows::PAD;
     Layout {
-        rows: [
-            rows::CV,
-            rows::COND,
-            rows::RES0_0_20,
-            pad,
-            pad,
-            pad,
-            pad,
-            pad,
-            pad,
-            pad,
-            pad,
-            pad,
-            pad,
-            pad,
-        ],
+        rows: [cv, cond, res0, o, o, o, o, o, o, o, o, o, o, o],
         count: 3,
         checks: [2, 0, 0, 0, 0, 0, 0, 0, 0, 0, 0, 0, 0, 0],
         checked: 1,

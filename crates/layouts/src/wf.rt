@@ -10,24 +10,16 @@ use texts::rules as r;
 pub(crate) fn decode_iss_wf(iss: u64) -> Layout
     ensures { λ r. ⌜ r ≡ layoutFor wf iss ⌝ }
 {
-    let pad = rows::PAD;
+    let cv = rows::CV;
+    let cond = rows::COND;
+    let res0_10 = rows::RES0_10_20;
+    let rn = rows::RN;
+    let res0_3 = rows::RES0_3_5;
+    let rv = rows::RV;
+    let ti = rows::TI;
+    let o = rows::PAD;
     Layout {
-        rows: [
-            rows::CV,
-            rows::COND,
-            rows::RES0_10_20,
-            rows::RN,
-            rows::RES0_3_5,
-            rows::RV,
-            rows::TI,
-            pad,
-            pad,
-            pad,
-            pad,
-            pad,
-            pad,
-            pad,
-        ],
+        rows: [cv, cond, res0_10, rn, res0_3, rv, ti, o, o, o, o, o, o, o],
         count: 7,
         checks: [2, 4, 6, 0, 0, 0, 0, 0, 0, 0, 0, 0, 0, 0],
         checked: 3,

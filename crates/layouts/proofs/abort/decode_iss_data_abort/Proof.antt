@@ -10,12 +10,19 @@ use Rattle.tables.specs.Shape.{Test, bit, isStatus, isExternal}
 use Rattle.tables.specs.Applying.{passes}
 use Rattle.records.specs.Kinds.{kindOf}
 use Rattle.tables.specs.Tables.{dataAbort}
+use lib.Dec.{T}
+use Rattle.tables.proofs.Laws.{knowsLines}
 use Rattle.layouts.proofs.Laws.{layout-at, passes-one, fails-one, passes-bit, passes-external}
 use Rattle.layouts.proofs.abort.decode_iss_data_abort.Statement.{statement}
 use Rattle.layouts.proofs.abort.decode_iss_data_abort.Tie as tie
 
 abbrev tests : List Test
 tests = bit 24 ∷ isExternal ∷ isStatus 0x10 ∷ bit 10 ∷ []
+
+-- every condition of the table asks one of these tests: computed once, for all outcomes
+knows : T (knowsLines tests (dataAbort .lines))
+unfolding dataAbort
+knows = tt
 
 field-requires : tie.Need-field-requires
 field-requires c κs = search needs
@@ -27,7 +34,7 @@ returns : tie.Need-returns
 unfolding dataAbort code indexIn names kindOf
 returns c =
     let v : ℕ = c .before .before .before .before .args .iss in
-    layout-at dataAbort tests tt v (true ∷ true ∷ true ∷ passes v (bit 10) ∷ []) (
+    layout-at dataAbort tests knows v (true ∷ true ∷ true ∷ passes v (bit 10) ∷ []) (
       passes-bit v 24 _ true (c .before .before .as-bit .ensures) (c .before .if1 .taken),
       (
         passes-external v 0x10 true (sym (c .if2 .taken) ∙ c .before .before .before .field .ensures) refl,
@@ -45,7 +52,7 @@ returns-2 : tie.Need-returns-2
 unfolding dataAbort code indexIn names kindOf
 returns-2 c =
     let v : ℕ = c .before .before .before .before .args .iss in
-    layout-at dataAbort tests tt v (true ∷ passes v isExternal ∷ false ∷ passes v (bit 10) ∷ []) (
+    layout-at dataAbort tests knows v (true ∷ passes v isExternal ∷ false ∷ passes v (bit 10) ∷ []) (
       passes-bit v 24 _ true (c .before .before .as-bit .ensures) (c .before .if1 .taken),
       (
         refl,
@@ -66,7 +73,7 @@ returns-3 : tie.Need-returns-3
 unfolding dataAbort code indexIn names kindOf
 returns-3 c =
     let v : ℕ = c .before .before .before .before .before .before .args .iss in
-    layout-at dataAbort tests tt v (false ∷ true ∷ true ∷ true ∷ []) (
+    layout-at dataAbort tests knows v (false ∷ true ∷ true ∷ true ∷ []) (
       passes-bit v 24 _ false (c .before .before .before .before .as-bit .ensures) (c .before .before .before .if1 .left),
       (
         passes-external v 0x10 true (sym (c .before .before .if3 .taken) ∙ c .before .before .before .before .before .field .ensures) refl,
@@ -84,7 +91,7 @@ returns-4 : tie.Need-returns-4
 unfolding dataAbort code indexIn names kindOf
 returns-4 c =
     let v : ℕ = c .before .before .before .before .before .before .args .iss in
-    layout-at dataAbort tests tt v (false ∷ true ∷ true ∷ false ∷ []) (
+    layout-at dataAbort tests knows v (false ∷ true ∷ true ∷ false ∷ []) (
       passes-bit v 24 _ false (c .before .before .before .before .as-bit .ensures) (c .before .before .before .if1 .left),
       (
         passes-external v 0x10 true (sym (c .before .before .if3 .taken) ∙ c .before .before .before .before .before .field .ensures) refl,
@@ -105,7 +112,7 @@ returns-5 : tie.Need-returns-5
 unfolding dataAbort code indexIn names kindOf
 returns-5 c =
     let v : ℕ = c .before .before .before .before .before .before .args .iss in
-    layout-at dataAbort tests tt v (false ∷ true ∷ false ∷ passes v (bit 10) ∷ []) (
+    layout-at dataAbort tests knows v (false ∷ true ∷ false ∷ passes v (bit 10) ∷ []) (
       passes-bit v 24 _ false (c .before .before .before .before .as-bit .ensures) (c .before .before .before .if1 .left),
       (
         passes-external v _ true (c .before .before .before .before .before .field .ensures) (sym (c .if5 .taken) ∙ c .before .is-external-abort-fsc .ensures),
@@ -123,7 +130,7 @@ returns-6 : tie.Need-returns-6
 unfolding dataAbort code indexIn names kindOf
 returns-6 c =
     let v : ℕ = c .before .before .before .before .before .before .args .iss in
-    layout-at dataAbort tests tt v (false ∷ false ∷ false ∷ passes v (bit 10) ∷ []) (
+    layout-at dataAbort tests knows v (false ∷ false ∷ false ∷ passes v (bit 10) ∷ []) (
       passes-bit v 24 _ false (c .before .before .before .before .as-bit .ensures) (c .before .before .before .if1 .left),
       (
         passes-external v _ false (c .before .before .before .before .before .field .ensures) (sym (c .if5 .left) ∙ c .before .is-external-abort-fsc .ensures),

@@ -10,12 +10,19 @@ use Rattle.tables.specs.Shape.{Test, bit, isStatus}
 use Rattle.tables.specs.Applying.{passes}
 use Rattle.records.specs.Kinds.{kindOf}
 use Rattle.tables.specs.Tables.{serror}
+use lib.Dec.{T}
+use Rattle.tables.proofs.Laws.{knowsLines}
 use Rattle.layouts.proofs.Laws.{layout-at, passes-one, fails-one, passes-bit}
 use Rattle.layouts.proofs.serror.decode_iss_serror.Statement.{statement}
 use Rattle.layouts.proofs.serror.decode_iss_serror.Tie as tie
 
 abbrev tests : List Test
 tests = bit 24 ∷ isStatus 0x11 ∷ bit 7 ∷ []
+
+-- every condition of the table asks one of these tests: computed once, for all outcomes
+knows : T (knowsLines tests (serror .lines))
+unfolding serror
+knows = tt
 
 as-bit-requires : tie.Need-as-bit-requires
 as-bit-requires c κs = search needs
@@ -24,7 +31,7 @@ returns : tie.Need-returns
 unfolding serror code indexIn names kindOf
 returns c =
     let v : ℕ = c .before .before .args .iss in
-    layout-at serror tests tt v (true ∷ passes v (isStatus 0x11) ∷ passes v (bit 7) ∷ []) (
+    layout-at serror tests knows v (true ∷ passes v (isStatus 0x11) ∷ passes v (bit 7) ∷ []) (
       passes-bit v 24 _ true (c .before .as-bit .ensures) (c .if1 .taken),
       (
         refl,
@@ -45,7 +52,7 @@ returns-2 : tie.Need-returns-2
 unfolding serror code indexIn names kindOf
 returns-2 c =
     let v : ℕ = c .before .before .before .before .before .before .args .iss in
-    layout-at serror tests tt v (false ∷ true ∷ true ∷ []) (
+    layout-at serror tests knows v (false ∷ true ∷ true ∷ []) (
       passes-bit v 24 _ false (c .before .before .before .before .before .as-bit .ensures) (c .before .before .before .before .if1 .left),
       (
         passes-one v 0 6 0x11 (sym (c .before .before .before .field .ensures) ∙ c .before .before .if2 .taken),
@@ -60,7 +67,7 @@ returns-3 : tie.Need-returns-3
 unfolding serror code indexIn names kindOf
 returns-3 c =
     let v : ℕ = c .before .before .before .before .before .before .args .iss in
-    layout-at serror tests tt v (false ∷ true ∷ false ∷ []) (
+    layout-at serror tests knows v (false ∷ true ∷ false ∷ []) (
       passes-bit v 24 _ false (c .before .before .before .before .before .as-bit .ensures) (c .before .before .before .before .if1 .left),
       (
         passes-one v 0 6 0x11 (sym (c .before .before .before .field .ensures) ∙ c .before .before .if2 .taken),
@@ -75,7 +82,7 @@ returns-4 : tie.Need-returns-4
 unfolding serror code indexIn names kindOf
 returns-4 c =
     let v : ℕ = c .before .before .before .before .args .iss in
-    layout-at serror tests tt v (false ∷ false ∷ passes v (bit 7) ∷ []) (
+    layout-at serror tests knows v (false ∷ false ∷ passes v (bit 7) ∷ []) (
       passes-bit v 24 _ false (c .before .before .before .as-bit .ensures) (c .before .before .if1 .left),
       (
         fails-one v 0 6 0x11 (λ e. c .if2 .left (c .before .field .ensures ∙ e)),
