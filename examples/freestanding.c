@@ -1,4 +1,4 @@
-/* What stands around a program here in slot of a unit, with no C library: its start and end, put() to standard output, and memcpy and
+/* What stands around a program here in place of a unit, with no C library: its start and end, put() to standard output, and memcpy and
    memset, the two functions that the archive asks for. x86-64 Linux. */
 #include "put.h"
 
