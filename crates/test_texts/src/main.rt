@@ -7,8 +7,8 @@ ghost use mathlib.Core.Path.{_≡_};
 use libc::STDOUT_FILENO;
 use number::Number;
 use number::NumberState;
+use records::Record;
 use records::Records;
-use refusals::Reason;
 use refusals::Refusal;
 use written::Written;
 
@@ -23,6 +23,9 @@ const NO_TEXT: usize = 32;
 // Stands in no text.
 const SENTINEL: u8 = 0xFF;
 
+// 01's number of a text that is longer than the buffer; it carries the bytes needed.
+const SHORT_BUFFER: u64 = 11;
+
 // What is called, by number, and what it is called with. An enum of calls would take the prover half as long again.
 const LISTING: u8 = 0;
 
@@ -34,29 +37,41 @@ const VALUE: u8 = 3;
 
 const BINARY: u8 = 4;
 
-struct Call {
-    first: u64,
-    second: u64,
-    function: u8,
-}
-
-fn to(function: u8, first: u64, second: u64) -> Call {
-    Call {
-        first,
-        second,
-        function,
-    }
-}
-
-fn answer(made: Call, buf: &mut [u8]) -> Written {
-    let function = made.function;
+fn made(function: u8, first: u64, second: u64, buf: &mut [u8]) -> Written {
     match function {
-        LISTING => return listing::listing(made.first, buf),
-        RECORD_LINE => return listing::record_line(made.first, made.second as usize, buf),
-        MESSAGE => return written::message(made.first, made.second, buf),
-        VALUE => return written::value_string(made.first, made.second, buf),
-        _ => return written::value_binary_string(made.first, made.second, buf),
+        LISTING => return listing::listing(first, buf),
+        RECORD_LINE => return listing::record_line(first, second as usize, buf),
+        MESSAGE => return written::message(first, second, buf),
+        VALUE => return written::value_string(first, second, buf),
+        _ => return written::value_binary_string(first, second, buf),
     }
+}
+
+// An answer in numbers; that of the refusal is 0 where there is none. The prover is quicker with these than with the reason.
+struct Told {
+    number: u64,
+    carried: u64,
+    bytes: usize,
+}
+
+fn in_numbers(written: Written) -> Told {
+    let refusal = written.refusal;
+    Told {
+        number: refusal.number() as u64,
+        carried: refusal.carries,
+        bytes: written.bytes,
+    }
+}
+
+fn is_told(written: Written, told: Told) -> bool {
+    let found = in_numbers(written);
+    if found.number != told.number {
+        return false;
+    }
+    if found.carried != told.carried {
+        return false;
+    }
+    found.bytes == told.bytes
 }
 
 fn room() -> [u8; ROOM]
@@ -65,113 +80,102 @@ fn room() -> [u8; ROOM]
     [SENTINEL; ROOM]
 }
 
-fn is_untouched(bytes: &[u8]) -> bool {
-    let mut i: usize = 0;
-    while i < bytes.len() {
-        if bytes[i] != SENTINEL {
-            return false;
-        }
-        i += 1;
-    }
-    true
-}
-
-// A text at the front, and nothing after it.
-fn holds(bytes: &[u8], text: &[u8]) -> bool {
-    if bytes.len() < text.len() {
-        return false;
-    }
-    if !check::same(&bytes[0..text.len()], text) {
-        return false;
-    }
-    is_untouched(&bytes[text.len()..])
-}
-
-fn same_answer(a: Written, b: Written) -> bool {
-    let left = a.refusal;
-    let right = b.refusal;
-    if left.number() != right.number() {
-        return false;
-    }
-    if left.carries != right.carries {
-        return false;
-    }
-    a.bytes == b.bytes
-}
-
-// Whether a call in a buffer of a length answers and leaves what it must, the buffer being a part of an untouched room. Where the call is
-// refused in any buffer, the text is empty.
-fn is_right_in(bytes: &mut [u8], made: Call, whole: Written, text: &[u8], length: usize) -> bool {
-    if bytes.len() < length {
-        return false;
-    }
-    let written = answer(made, &mut bytes[0..length]);
-    if length < text.len() {
-        let short = Written {
-            refusal: Refusal {
-                carries: text.len() as u64,
-                reason: Reason::ShortBuffer,
-            },
+// What a call answers in a buffer of a length, given what it answers in a whole room.
+fn told_in(whole: Told, length: usize) -> Told {
+    if length < whole.bytes {
+        return Told {
+            number: SHORT_BUFFER,
+            carried: whole.bytes as u64,
             bytes: 0,
         };
-        if !same_answer(written, short) {
-            return false;
-        }
-        return is_untouched(bytes);
     }
-    if !same_answer(written, whole) {
+    whole
+}
+
+// Whether a call in a buffer of a length answered and left what it must, the buffer being the front of an untouched room: what it left of a
+// whole room, or nothing where the text is longer than the buffer. Past a buffer of exactly the text's length nothing is written, so that
+// a room that is left as that one has the text and no other byte.
+fn is_right(
+    written: Written,
+    bytes: &[u8; ROOM],
+    whole: Told,
+    left: &[u8; ROOM],
+    length: usize,
+) -> bool {
+    if !is_told(written, told_in(whole, length)) {
         return false;
     }
-    holds(bytes, text)
-}
-
-fn is_right(made: Call, whole: Written, text: &[u8], length: usize) -> bool {
-    let mut bytes = room();
-    is_right_in(&mut bytes, made, whole, text, length)
-}
-
-struct Tally {
-    tried: u64,
-    wrong: u64,
-}
-
-fn one_more(count: u64) -> u64 {
-    std::num::wrapping_add_u64(count, 1)
-}
-
-impl Tally {
-    fn with(mut self, right: bool) -> Self {
-        self.tried = one_more(self.tried);
-        if !right {
-            self.wrong = one_more(self.wrong);
-        }
-        self
+    if length < whole.bytes {
+        return check::same(bytes, &room());
     }
+    check::same(bytes, left)
 }
 
-fn exact_length(text: &[u8]) -> usize {
-    if text.len() == 0 {
+// How many buffers were tried, and in the upper half how many of them were wrong: one number goes from hand to hand.
+const WRONG: u64 = 1 << 32;
+
+fn counted(tally: u64, right: bool) -> u64 {
+    let next = std::num::wrapping_add_u64(tally, 1);
+    if right {
+        return next;
+    }
+    std::num::wrapping_add_u64(next, WRONG)
+}
+
+fn tried(
+    tally: u64,
+    function: u8,
+    first: u64,
+    second: u64,
+    whole: Told,
+    left: &[u8; ROOM],
+    length: usize,
+) -> u64 {
+    if ROOM < length {
+        return counted(tally, false);
+    }
+    let mut bytes = room();
+    let written = made(function, first, second, &mut bytes[0..length]);
+    counted(tally, is_right(written, &bytes, whole, left, length))
+}
+
+fn exact_length(whole: Told) -> usize {
+    if whole.bytes == 0 {
         return NO_TEXT;
     }
-    text.len()
+    whole.bytes
 }
 
 // Length 0, one short, exact, one more and much more.
-fn with_lengths(tally: Tally, made: Call, whole: Written, text: &[u8]) -> Tally {
-    let exact = exact_length(text);
+fn with_lengths(
+    tally: u64,
+    function: u8,
+    first: u64,
+    second: u64,
+    whole: Told,
+    left: &[u8; ROOM],
+) -> u64 {
+    let exact = exact_length(whole);
     let short = std::num::wrapping_sub_usize(exact, 1);
-    let one_over = std::num::wrapping_add_usize(exact, 1);
-    let much_over = std::num::wrapping_add_usize(exact, MORE);
-    tally
-        .with(is_right(made, whole, text, 0))
-        .with(is_right(made, whole, text, short))
-        .with(is_right(made, whole, text, exact))
-        .with(is_right(made, whole, text, one_over))
-        .with(is_right(made, whole, text, much_over))
+    let over = std::num::wrapping_add_usize(exact, 1);
+    let far_over = std::num::wrapping_add_usize(exact, MORE);
+    let mut next = tried(tally, function, first, second, whole, left, 0);
+    next = tried(next, function, first, second, whole, left, short);
+    next = tried(next, function, first, second, whole, left, exact);
+    next = tried(next, function, first, second, whole, left, over);
+    tried(next, function, first, second, whole, left, far_over)
 }
 
 fn say(text: &[u8]) {
     io::write_all(STDOUT_FILENO, text);
+}
+
+fn end_line() {
+    say(b"\n");
+}
+
+fn space() {
+    say(b" ");
 }
 
 fn say_number(name: &[u8], number: u64) {
@@ -184,38 +188,48 @@ fn say_hex(name: &[u8], number: u64) {
     io::print_hex(STDOUT_FILENO, number, 1);
 }
 
-fn say_refusal(refusal: Refusal) {
-    say_number(b"refused ", refusal.number() as u64);
-    say_hex(b" carried=0x", refusal.carries);
+fn say_index(index: usize) {
+    io::print_decimal(STDOUT_FILENO, index as u64);
+    space();
 }
 
-// Says the text or the refusal, and tries the call in the buffers.
-fn say_call(tally: Tally, made: Call) -> Tally {
-    let mut bytes = room();
-    let whole = answer(made, &mut bytes);
-    let refusal = whole.refusal;
-    if refusal.number() != 0 {
-        say_refusal(refusal);
-        return with_lengths(tally, made, whole, b"");
+fn say_carried(name: &[u8], number: u64, carried: u64) {
+    say_number(name, number);
+    say_hex(b" carried=0x", carried);
+}
+
+// The text, or the refusal, of which there is no text.
+fn say_answer(whole: Told, text: &[u8]) {
+    if whole.number != 0 {
+        say_carried(b"refused ", whole.number, whole.carried);
     }
+    say(text);
+}
+
+// Says what a call answers, and tries it in the buffers.
+fn say_call(tally: u64, function: u8, first: u64, second: u64) -> u64 {
+    let mut bytes = room();
+    let whole = in_numbers(made(function, first, second, &mut bytes));
     let count = whole.bytes;
     if ROOM < count {
-        return tally.with(false);
+        return counted(tally, false);
     }
-    let text = &bytes[0..count];
-    say(text);
-    with_lengths(tally, made, whole, text)
+    say_answer(whole, &bytes[0..count]);
+    with_lengths(tally, function, first, second, whole, &bytes)
 }
 
-fn say_line(tally: Tally, esr: u64, index: usize) -> Tally {
-    say_number(b"", index as u64);
-    say(b" ");
-    let next = say_call(tally, to(RECORD_LINE, esr, index as u64));
-    say(b"\n");
+fn say_ended(tally: u64, function: u8, first: u64, second: u64) -> u64 {
+    let next = say_call(tally, function, first, second);
+    end_line();
     next
 }
 
-fn say_lines(tally: Tally, esr: u64, count: usize) -> Tally {
+fn say_line(tally: u64, esr: u64, index: usize) -> u64 {
+    say_index(index);
+    say_ended(tally, RECORD_LINE, esr, index as u64)
+}
+
+fn say_lines(tally: u64, esr: u64, count: usize) -> u64 {
     let mut next = tally;
     let mut index: usize = 0;
     while index < count {
@@ -226,58 +240,60 @@ fn say_lines(tally: Tally, esr: u64, count: usize) -> Tally {
     say_line(next, esr, usize::MAX)
 }
 
-fn say_strings(tally: Tally, width: u64, value: u64) -> Tally {
-    let next = say_call(tally, to(VALUE, width, value));
-    say(b" ");
-    let last = say_call(next, to(BINARY, width, value));
-    say(b"\n");
-    last
+fn say_strings(tally: u64, width: u64, value: u64) -> u64 {
+    let next = say_call(tally, VALUE, width, value);
+    space();
+    say_ended(next, BINARY, width, value)
 }
 
-fn say_values(tally: Tally, records: Records) -> Tally {
+fn say_item(tally: u64, index: usize, item: Record) -> u64 {
+    say_index(index);
+    say_strings(tally, item.width as u64, item.value)
+}
+
+fn say_values(tally: u64, records: Records) -> u64 {
     let mut next = tally;
     let mut i: usize = 0;
     while i < records.count {
-        let item = records.at(i);
-        say_number(b"", i as u64);
-        say(b" ");
-        next = say_strings(next, item.width as u64, item.value);
+        next = say_item(next, i, records.at(i));
         i += 1;
     }
     next
 }
 
-fn say_message(tally: Tally, number: u64, carried: u64) -> Tally {
-    let next = say_call(tally, to(MESSAGE, number, carried));
-    say(b"\n");
-    next
-}
-
-fn say_value(tally: Tally, esr: u64) -> Tally {
-    say_hex(b"> 0x", esr);
-    say(b"\n");
-    let mut next = say_call(tally, to(LISTING, esr, 0));
-    say(b"\n");
-    let answer = esr::decode(esr);
-    let refusal = answer.refusal;
-    if refusal.number() != 0 {
-        next = say_message(next, refusal.number() as u64, refusal.carries);
-    }
-    next = say_lines(next, esr, answer.records.count);
-    say_values(next, answer.records)
-}
-
-fn say_read(tally: Tally, number: Number) -> Tally {
-    let refusal = number.refusal;
-    if refusal.number() != 0 {
-        say_refusal(refusal);
-        say(b"\n");
+fn say_why(tally: u64, refusal: Refusal) -> u64 {
+    let number = refusal.number();
+    if number == 0 {
         return tally;
     }
-    say_value(tally, number.value)
+    say_ended(tally, MESSAGE, number as u64, refusal.carries)
 }
 
-fn say_given(tally: Tally, given: &[u8]) -> Tally {
+fn say_records(tally: u64, esr: u64) -> u64 {
+    let answer = esr::decode(esr);
+    let records = answer.records;
+    let next = say_why(tally, answer.refusal);
+    say_values(say_lines(next, esr, records.count), records)
+}
+
+fn say_value(tally: u64, esr: u64) -> u64 {
+    say_hex(b"> 0x", esr);
+    end_line();
+    say_records(say_ended(tally, LISTING, esr, 0), esr)
+}
+
+fn say_read(tally: u64, read: Number) -> u64 {
+    let refusal = read.refusal;
+    let number = refusal.number();
+    if number == 0 {
+        return say_value(tally, read.value);
+    }
+    say_carried(b"refused ", number as u64, refusal.carries);
+    end_line();
+    tally
+}
+
+fn say_given(tally: u64, given: &[u8]) -> u64 {
     let mut next = tally;
     let mut at: usize = 0;
     while at < given.len() {
@@ -288,7 +304,7 @@ fn say_given(tally: Tally, given: &[u8]) -> Tally {
     next
 }
 
-fn say_field(tally: Tally, width: u64, value: u64) -> Tally {
+fn say_field(tally: u64, width: u64, value: u64) -> u64 {
     say_number(b"width ", width);
     say_hex(b" value 0x", value);
     say(b": ");
@@ -296,31 +312,37 @@ fn say_field(tally: Tally, width: u64, value: u64) -> Tally {
 }
 
 // Each width from 0 to past 64, with 0, the greatest value and one more; the greatest of 64 bits stays where a width is past them.
-fn say_widths(tally: Tally) -> Tally {
+fn say_widths(tally: u64) -> u64 {
     let mut next = tally;
     let mut ones: u64 = 0;
     for width in 0..67 {
         next = say_field(next, width, 0);
         next = say_field(next, width, ones);
-        next = say_field(next, width, one_more(ones));
-        ones = one_more(std::num::wrapping_add_u64(ones, ones));
+        next = say_field(next, width, std::num::wrapping_add_u64(ones, 1));
+        ones = std::num::wrapping_add_u64(std::num::wrapping_add_u64(ones, ones), 1);
     }
     next
 }
 
-fn say_numbered(tally: Tally, number: u64, carried: u64) -> Tally {
-    say_number(b"message ", number);
-    say_hex(b" carried=0x", carried);
-    say(b": ");
-    say_message(tally, number, carried)
+// These widths would be accepted if their upper bits were cut off.
+fn say_far_widths(tally: u64) -> u64 {
+    let mut next = say_field(tally, 0x108, 0);
+    next = say_field(next, 0x100000008, 0);
+    say_field(next, u64::MAX, 0)
 }
 
-fn say_message_ends(tally: Tally, number: u64) -> Tally {
+fn say_numbered(tally: u64, number: u64, carried: u64) -> u64 {
+    say_carried(b"message ", number, carried);
+    say(b": ");
+    say_ended(tally, MESSAGE, number, carried)
+}
+
+fn say_message_ends(tally: u64, number: u64) -> u64 {
     let next = say_numbered(tally, number, 0);
     say_numbered(next, number, u64::MAX)
 }
 
-fn say_messages(tally: Tally) -> Tally {
+fn say_messages(tally: u64) -> u64 {
     let mut next = tally;
     for number in 0..18 {
         next = say_message_ends(next, number);
@@ -328,21 +350,23 @@ fn say_messages(tally: Tally) -> Tally {
     next
 }
 
+// These numbers too.
+fn say_far_messages(tally: u64) -> u64 {
+    let mut next = say_message_ends(tally, 0x101);
+    next = say_message_ends(next, 0x100000001);
+    say_message_ends(next, u64::MAX)
+}
+
+fn say_tally(tally: u64) {
+    say_number(b"buffers ", tally % WRONG);
+    say_number(b" wrong ", tally / WRONG);
+    end_line();
+}
+
 fn main() {
     let mut given = io::large_buffer();
     let n = io::read_full(0, &mut given);
-    let mut tally = Tally { tried: 0, wrong: 0 };
-    tally = say_given(tally, &given[0..n]);
-    tally = say_widths(tally);
-    // These would be accepted if their upper bits were cut off.
-    tally = say_field(tally, 0x108, 0);
-    tally = say_field(tally, 0x100000008, 0);
-    tally = say_field(tally, u64::MAX, 0);
-    tally = say_messages(tally);
-    tally = say_message_ends(tally, 0x101);
-    tally = say_message_ends(tally, 0x100000001);
-    tally = say_message_ends(tally, u64::MAX);
-    say_number(b"buffers ", tally.tried);
-    say_number(b" wrong ", tally.wrong);
-    say(b"\n");
+    let mut tally = say_given(0, &given[0..n]);
+    tally = say_far_widths(say_widths(tally));
+    say_tally(say_far_messages(say_messages(tally)));
 }

@@ -8,10 +8,10 @@ use Rattle.test_texts.proofs.say_given.Statement.{statement}
 use Rattle.test_texts.proofs.say_given.Tie as tie
 
 abbrev Inv-loop : tie.InvT-loop
-Inv-loop given next₀ at₀ next at = Unit {0}
+Inv-loop tally given next₀ at₀ next at = Unit {0}
 
 abbrev μ-loop : tie.MeasureT-loop
-μ-loop given next₀ at₀ next at = length given - at
+μ-loop tally given next₀ at₀ next at = length given - at
 
 loop-holds : tie.Need-loop-holds Inv-loop μ-loop
 loop-holds c = search needs

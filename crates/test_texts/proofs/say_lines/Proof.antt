@@ -5,10 +5,10 @@ use Rattle.test_texts.proofs.say_lines.Statement.{statement}
 use Rattle.test_texts.proofs.say_lines.Tie as tie
 
 abbrev Inv-loop : tie.InvT-loop
-Inv-loop esr count next₀ index₀ next index = Unit {0}
+Inv-loop tally esr count next₀ index₀ next index = Unit {0}
 
 abbrev μ-loop : tie.MeasureT-loop
-μ-loop esr count next₀ index₀ next index = count - index
+μ-loop tally esr count next₀ index₀ next index = count - index
 
 loop-holds : tie.Need-loop-holds Inv-loop μ-loop
 loop-holds c = search needs

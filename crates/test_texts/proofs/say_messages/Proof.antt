@@ -5,10 +5,10 @@ use Rattle.test_texts.proofs.say_messages.Statement.{statement}
 use Rattle.test_texts.proofs.say_messages.Tie as tie
 
 abbrev Inv-loop : tie.InvT-loop
-Inv-loop next₀ number₀ next number = number ≤ 18
+Inv-loop tally next₀ number₀ next number = number ≤ 18
 
 abbrev μ-loop : tie.MeasureT-loop
-μ-loop next₀ number₀ next number = 18 - number
+μ-loop tally next₀ number₀ next number = 18 - number
 
 loop-holds : tie.Need-loop-holds Inv-loop μ-loop
 loop-holds c = search needs

@@ -5,10 +5,10 @@ use Rattle.test_texts.proofs.say_widths.Statement.{statement}
 use Rattle.test_texts.proofs.say_widths.Tie as tie
 
 abbrev Inv-loop : tie.InvT-loop
-Inv-loop next₀ ones₀ width₀ next ones width = width ≤ 67
+Inv-loop tally next₀ ones₀ width₀ next ones width = width ≤ 67
 
 abbrev μ-loop : tie.MeasureT-loop
-μ-loop next₀ ones₀ width₀ next ones width = 67 - width
+μ-loop tally next₀ ones₀ width₀ next ones width = 67 - width
 
 loop-holds : tie.Need-loop-holds Inv-loop μ-loop
 loop-holds c = search needs
@@ -19,17 +19,17 @@ say-field-requires c κs = search needs
 say-field-requires-2 : tie.Need-say-field-requires-2 Inv-loop μ-loop
 say-field-requires-2 c κs = search needs
 
-one-more-requires : tie.Need-one-more-requires Inv-loop μ-loop
-one-more-requires c κs = search needs
+wrapping-add-u64-requires : tie.Need-wrapping-add-u64-requires Inv-loop μ-loop
+wrapping-add-u64-requires c κs = search needs
 
 say-field-requires-3 : tie.Need-say-field-requires-3 Inv-loop μ-loop
 say-field-requires-3 c κs = search needs
 
-wrapping-add-u64-requires : tie.Need-wrapping-add-u64-requires Inv-loop μ-loop
-wrapping-add-u64-requires c κs = search needs
+wrapping-add-u64-requires-2 : tie.Need-wrapping-add-u64-requires-2 Inv-loop μ-loop
+wrapping-add-u64-requires-2 c κs = search needs
 
-one-more-requires-2 : tie.Need-one-more-requires-2 Inv-loop μ-loop
-one-more-requires-2 c κs = search needs
+wrapping-add-u64-requires-3 : tie.Need-wrapping-add-u64-requires-3 Inv-loop μ-loop
+wrapping-add-u64-requires-3 c κs = search needs
 
 add-width : tie.Need-add-width Inv-loop μ-loop
 add-width c = search needs
@@ -52,10 +52,10 @@ say-widths-spec =
     loop-holds
     say-field-requires
     say-field-requires-2
-    one-more-requires
-    say-field-requires-3
     wrapping-add-u64-requires
-    one-more-requires-2
+    say-field-requires-3
+    wrapping-add-u64-requires-2
+    wrapping-add-u64-requires-3
     add-width
     loop-less
     loop-again
