@@ -63,7 +63,7 @@ fn put_record(
     put_text_line(buf, c, pool, starts, index, item.text)
 }
 
-// A set counts at most as many records as it has room for, or it is none that decode gives; then all of its room is shown.
+// decode never counts more records than a set has room for. Of a set that counts more, every slot is shown.
 pub fn put_listing(
     buf: &mut [u8],
     at: usize,

@@ -26,6 +26,7 @@ const EMPTY: u8 = 255;
 
 // The number of each class's layout, by class.
 const CLASS: [u8; 64] = [
+    // 0x00
     numbers::RES0,
     numbers::WF,
     EMPTY,
@@ -34,6 +35,7 @@ const CLASS: [u8; 64] = [
     numbers::MCR,
     numbers::LDC,
     numbers::SVE,
+    // 0x08
     EMPTY,
     EMPTY,
     numbers::LD64B,
@@ -42,6 +44,7 @@ const CLASS: [u8; 64] = [
     numbers::BTI,
     numbers::RES0,
     EMPTY,
+    // 0x10
     EMPTY,
     numbers::HVC,
     EMPTY,
@@ -50,6 +53,7 @@ const CLASS: [u8; 64] = [
     numbers::HVC,
     numbers::HVC,
     numbers::HVC,
+    // 0x18
     numbers::UNDIVIDED,
     numbers::RES0,
     EMPTY,
@@ -58,6 +62,7 @@ const CLASS: [u8; 64] = [
     EMPTY,
     EMPTY,
     EMPTY,
+    // 0x20
     numbers::INSTRUCTION_ABORT,
     numbers::INSTRUCTION_ABORT,
     numbers::RES0,
@@ -66,6 +71,7 @@ const CLASS: [u8; 64] = [
     numbers::DATA_ABORT,
     numbers::RES0,
     EMPTY,
+    // 0x28
     numbers::FP,
     EMPTY,
     EMPTY,
@@ -74,6 +80,7 @@ const CLASS: [u8; 64] = [
     EMPTY,
     EMPTY,
     numbers::SERROR,
+    // 0x30
     numbers::BREAKPOINT,
     numbers::BREAKPOINT,
     numbers::SOFTWARE_STEP,
@@ -82,6 +89,7 @@ const CLASS: [u8; 64] = [
     numbers::WATCHPOINT,
     EMPTY,
     EMPTY,
+    // 0x38
     numbers::BRK,
     EMPTY,
     EMPTY,

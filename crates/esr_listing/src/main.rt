@@ -5,7 +5,8 @@ use listing_reply::put_listing_reply;
 use number::Number;
 use number::NumberState;
 
-// Where a run stands between two parts of its input. The first listing is held until it is known whether a line follows it.
+// Where a run stands between two parts of its input: the line that is being read, how many lines have ended, whether more than one line is known of, so that lines
+// are named, and whether the first one has ended and waits to be answered.
 struct Standing {
     line: NumberState,
     count: u64,
@@ -39,7 +40,7 @@ fn answer_held(from: Standing, buf: &mut [u8]) -> Standing {
     }
 }
 
-// Whether a line is not the only one, as far as this part of the input tells.
+// Whether more than one line is known of, as far as this part of the input tells.
 fn is_followed(named: bool, part: &[u8], next: usize) -> bool {
     if named {
         return true;

@@ -1,5 +1,5 @@
-// The layouts of instruction and data aborts. A row is made in front of the layouts that have it, in the order of 01's table: past a return it is taken back, which the
-// prover does row by row.
+// The layouts of instruction and data aborts. A row is made in front of the layouts that have it, and not before: at each return
+// the prover takes back every row that was made.
 ghost use Rattle.layouts.specs.Layouts.{layoutFor};
 ghost use Rattle.promise.specs.Member.{member};
 ghost use Rattle.tables.specs.Shape.{externals};

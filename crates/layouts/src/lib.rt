@@ -1,4 +1,5 @@
-// The layouts of ISS: the rows of each and when they apply. A routine for each, in a file and under a name as the Rust has them.
+// The layouts of ISS: the rows of each and when they apply. A routine for each, in a file and under a name as the Rust has
+// them; here a routine only gives the rows, and decodes nothing.
 ghost use Rattle.layouts.specs.Promises.{LayoutOf};
 ghost use Rattle.layouts.specs.Layouts.{layoutFor};
 ghost use Rattle.tables.specs.Tables.{res0};

@@ -1,5 +1,5 @@
-// The rows of all layouts, from high bits to low, each once. A routine makes a row in a local, and its layouts copy it: a constant is built
-// anew wherever it is named, and the proof of the routine grows by each.
+// The rows of all layouts, from high bits to low, each once; RES0_16_25 is bits 16 to 24. A constant is built anew wherever it is named, which
+// lengthens the proof, so a routine names a row once, in a local, and its layouts copy it.
 use records::Row;
 use records::kinds as k;
 use texts::names as n;

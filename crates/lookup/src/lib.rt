@@ -30,7 +30,7 @@ pub fn length_of(code: u16) -> u16
 // A rule in numbers: the values that it has a text for, as bits, and its first code, that of the value 0.
 struct Descriptions(u64, u16);
 
-// A match, and no table: a table would be built at each call.
+// Rules 1 to 31 are of one bit and have two codes each, from BIT_FIRST on. A match, and no table: a table would be built at each call.
 fn in_numbers(rule: u8) -> Descriptions
     ensures { λ r. ⌜ r ≡ numbersOf rule ⌝ }
 {

@@ -14,7 +14,7 @@ use std::num::wrapping_sub_u64;
 // All bits but bit 5, in which alone small letters differ from large ones.
 const BUT_CASE: u64 = 0xFFFF_FFFF_FFFF_FFDF;
 
-// The sign that may stand.
+// The only sign that a number may have.
 const SIGN: u8 = b'+';
 
 // The most that a result may be.
@@ -59,8 +59,8 @@ fn base_of(hex: bool) -> u64
     if hex { 16 } else { 10 }
 }
 
-// A count below the base is the digit, and any other count says that there is no digit: what stands before "0" or "A" wraps. A count needs
-// no branch on the range of the character, which a processor cannot predict.
+// Below the base the result is the digit; otherwise the character is no digit: one before "0" or "A" wraps to a large number. So no
+// branch asks for the range of the character, which a processor cannot predict.
 fn digit_of(hex: bool, b: u8) -> u64
     ensures { λ r. ⌜ (r < baseOf hex → r ≡ digitOf b) × (baseOf hex ≤ r → baseOf hex ≤ digitOf b) ⌝ }
 {

@@ -1,4 +1,5 @@
-// A value given back from its records: the leaves shifted back and added up.
+// What a reading of a value is (specs/), that a value is accepted exactly when it has one (proofs/), and the value given back from its records: the leaves
+// shifted back and added up.
 ghost use Prim.Native.Nat.{_≤_, _%_, _^_};
 ghost use Rattle.reading.specs.Leaves.{shiftedBack, addedUp};
 ghost use Rattle.reading.specs.Promises.{SumBack};

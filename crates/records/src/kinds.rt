@@ -1,4 +1,4 @@
-// The kinds of rows by name: their indices in the list of specs/Kinds.antt. From EC to LAST they are coded.
+// The kinds of rows by name: their indices in the list of specs/Kinds.antt. A row of a kind from EC to LAST is coded: it takes only a value that its rule has a text for.
 pub const FREE: u8 = 0;
 
 pub const UNCHECKED: u8 = 1;

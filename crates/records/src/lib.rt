@@ -81,7 +81,7 @@ impl Row {
         }
     }
 
-    // Whether the row's field of a value is as the row asks: what check_res0 and describe look at.
+    // Whether the row's field of a value is as the row asks: what the Rust's check_res0 and describe look at.
     pub fn meets(self, v: u64) -> bool
         ensures { λ r. ⌜ Meets (self, v) r ⌝ }
     {
@@ -97,7 +97,7 @@ impl Row {
         true
     }
 
-    // What the row answers where it is not: the reason of its kind, carrying its field.
+    // What the row answers where its field is not as it asks: the reason of its kind, carrying its field.
     pub fn refusal(self, v: u64) -> Refusal
         ensures { λ r. ⌜ Refused (self, v) r ⌝ }
     {

@@ -6,7 +6,7 @@ ghost use mathlib.Core.Path.{_≡_};
 use libc::STDERR_FILENO;
 use libc::STDOUT_FILENO;
 
-// The offset where what is held begins, and so the one where nothing is held.
+// The offset that `flush` answers: nothing is held before it.
 const NOTHING_HELD: usize = 0;
 
 // How many bytes of a buffer were read, by what libc::read answered: 0 at the end of the input, and where it cannot be read.

@@ -1,4 +1,4 @@
-// The names of fields, by their codes: their indices in specs/Names.antt. A long name is the name's with _LONG; RES0, EA and ISS have other
+// The names of fields, by their codes: their indices in specs/Names.antt. The long name of X is X_LONG; RES0, EA and ISS have other
 // long names in some rows, or none.
 pub const NONE: u8 = 0;
 pub const RES0: u8 = 1;
