@@ -2,7 +2,7 @@
 """Builds the Rust that ours is compared with (google/aarch64-esr-decoder, commit 40a497fccc).
 
     compare/build.py oracle [SOURCES]     SOURCES has the decoder's src/; by default ../shared/docs/src beside the repository
-    compare/build.py every|bench [SOURCES]     also that program of sides/, over the decoder and our archive (`rt staticlib capi`)
+    compare/build.py every|bench [SOURCES]     also that program of sides/, over the decoder and our archive
     compare/build.py differences [SOURCES]     also that program of sides/, over the decoder in both kinds
 
 The oracle answers lines of standard input (oracle/main.rs). There are two, in target/compare/bin/:
@@ -10,8 +10,8 @@ The oracle answers lines of standard input (oracle/main.rs). There are two, in t
   as-published  the sources as they are; of filled.rs and msr.rs only what the sources do not have
 In both, `midr` and `smccc` are left out, `bit_field` is a stand-in (bit_field.rs) and `thiserror` is Debian's package. The compiler is the
 machine's own, from 1.73 on, or else Debian's rustc-web. Nothing is fetched but Debian's packages. Exits 0, or says what failed and exits 1.
-Our archive is for x86-64, so `every` and `bench` are as well: on another processor Debian's rustc-web builds them, and they run under Debian's
-emulator. The copies lie in target/compare/by-01 and target/compare/as-published, each a package with the library `decoder`."""
+Our archive is the one for this machine's processor (tools/retarget.py), so that `every` and `bench` run natively, on x86-64 and on AArch64. The copies lie in
+target/compare/by-01 and target/compare/as-published, each a package with the library `decoder`."""
 import hashlib
 import os
 import platform
@@ -19,27 +19,22 @@ import re
 import shutil
 import subprocess
 import sys
-import tempfile
 from pathlib import Path
 
 HERE = Path(__file__).resolve().parent
+sys.path.insert(0, str(HERE.parent / "tools"))
+import retarget
+
 ORACLE = HERE / "oracle"
 TOP = HERE.parent
 OUT = TOP / "target" / "compare"
 BIN = OUT / "bin"
 DEFAULT = TOP.parent / "shared" / "docs" / "src"
-ARCHIVES = TOP / "target" / "staticlib"
 REGISTRY = Path("/usr/share/cargo/registry")
 DEBIAN = Path("/usr/bin")
 OLDEST = (1, 73)
 KINDS = ("by-01", "as-published")
 SIDES = ("every", "bench")
-
-# What builds for x86-64 on another processor, and what runs it there.
-X86_64 = "x86_64-unknown-linux-gnu"
-CROSS = ("rustc-web", "cargo-web", "gcc-x86-64-linux-gnu", "libc6-dev-amd64-cross", "qemu-user")
-LINKER = DEBIAN / "x86_64-linux-gnu-gcc"
-EMULATOR = [DEBIAN / "qemu-x86_64", "-L", "/usr/x86_64-linux-gnu"]
 
 # A function of a file as the formatter lays it out, with the comment above it.
 ITEM = r"(?:^///[^\n]*\n)*^(?:pub\(super\) )?fn ({name})\(.*?^}}\n"
@@ -62,7 +57,7 @@ dead_code = "deny"
 LIBRARY = '\n[lib]\nname = "{name}"\npath = "src/lib.rs"\n'
 LINKED = """fn main() {{
     println!("cargo:rustc-link-search=native={folder}");
-    println!("cargo:rustc-link-lib=static=capi");
+    println!("cargo:rustc-link-lib=static=esr");
     println!("cargo:rerun-if-changed={archive}");
 }}
 """
@@ -98,12 +93,6 @@ def runner():
     return [tools / "bin" / "qemu-x86_64", tools / "lib" / "ld-linux-x86-64.so.2", "--library-path", tools / "lib"]
 
 
-def emulator():
-    """What stands before a program of sides/. The toolchain's emulator will not do: it breaks down where a program reads which memory it
-    has (/proc/self/maps), and whatever is written in Rust does so at its start."""
-    return [] if platform.machine() == "x86_64" else EMULATOR
-
-
 def version_of(compiler):
     try:
         said = subprocess.run([compiler, "--version"], capture_output=True, text=True).stdout
@@ -123,40 +112,6 @@ def compiler():
     if version_of(DEBIAN / "rustc") < OLDEST:
         fail("no rustc from 1.73 on, and Debian's packages gave none")
     return DEBIAN
-
-
-def library():
-    """Where the standard library for x86-64 is to lie that fits Debian's compiler as it is installed; one of another version does not."""
-    asked = ["dpkg-query", "--show", "--showformat=${Version}", "rustc-web"]
-    return OUT / "x86-64" / f"std-{subprocess.run(asked, capture_output=True, text=True).stdout}"
-
-
-def unpack(room):
-    """Unpacks that library from Debian's package for x86-64. It is not installed, and apt has a state of its own for it, which is gone
-    afterwards: this machine's packages, and the processors that it takes packages for, stay as they are."""
-    room.parent.mkdir(parents=True, exist_ok=True)
-    package = f"libstd-rust-web-dev={room.name.removeprefix('std-')}"
-    with tempfile.TemporaryDirectory(dir=room.parent) as state:
-        own = {"APT::Architecture": "amd64", "APT::Architectures": "amd64", "APT::Sandbox::User": "root"}
-        own |= {"Dir::State": state, "Dir::State::status": "/dev/null", "Dir::Cache": state}
-        options = [f"-o{name}={value}" for name, value in own.items()]
-        for command in (["update"], ["download", package]):
-            if subprocess.run(["apt-get", "-qq", *options, *command], cwd=state).returncode:
-                fail(f"apt-get {' '.join(command)} failed for x86-64")
-        whole = Path(state) / "whole"
-        subprocess.run(["dpkg", "--extract", *Path(state).glob("*.deb"), whole], check=True)
-        whole.rename(room)
-
-
-def crossing():
-    """Makes Debian's compiler ready to build for x86-64 on another processor; answers the words that its cargo needs for that. They hold
-    for what is built to run in the end, and not for what runs in the build (thiserror's macros)."""
-    if not (library().is_dir() and LINKER.is_file() and EMULATOR[0].is_file()):
-        install(*CROSS)
-    if not library().is_dir():
-        unpack(library())
-    own = {"linker": f'"{LINKER}"', "rustflags": f'["--sysroot={library() / "usr"}"]'}
-    return ["--target", X86_64, *(f"--config=target.{X86_64}.{name}={value}" for name, value in own.items())]
 
 
 def write(path, text):
@@ -210,19 +165,18 @@ def make(kind, sources):
     return sum_of(files)
 
 
-def cargo(folder, room, program, cross=()):
-    """Builds a program of a package with the folder's cargo, offline, over Debian's sources; all packages share what they need. The words
-    of `crossing` are given where it is built for another processor than this one."""
+def cargo(folder, room, program):
+    """Builds a program of a package with the folder's cargo, offline, over Debian's sources; all packages share what they need."""
     own = {"CARGO_HOME": OUT / "cargo", "CARGO_TARGET_DIR": OUT / "build", "RUSTC": folder / "rustc"}
     environment = os.environ | {name: str(value) for name, value in own.items()}
-    command = [folder / "cargo", "build", "--release", "--quiet", "--offline", "--bin", program, *cross]
+    command = [folder / "cargo", "build", "--release", "--quiet", "--offline", "--bin", program]
     if subprocess.run(command, cwd=room, env=environment).returncode:
         fail(f"cargo build failed in {room.relative_to(TOP)}")
 
 
-def keep(built, name, cross=()):
+def keep(built, name):
     BIN.mkdir(parents=True, exist_ok=True)
-    shutil.copy2(OUT / "build" / (X86_64 if cross else "") / "release" / built, BIN / name)
+    shutil.copy2(OUT / "build" / "release" / built, BIN / name)
 
 
 def oracle(sources=None):
@@ -246,29 +200,26 @@ def oracle(sources=None):
     return folder, hashes
 
 
-def program(name, folder, needs, cross=()):
+def program(name, folder, needs):
     """Builds a program of sides/ over the packages that it needs."""
     room = OUT / name
     dependencies = "".join(f'{word} = {{ package = "{kind}", path = "{OUT / kind}" }}\n' for word, kind in needs.items())
     targets = PROGRAM.format(name=name, path=HERE / "sides" / f"{name}.rs")
     write(room / "Cargo.toml", MANIFEST.format(name=f"{name}-program", targets=targets, dependencies=dependencies))
-    cargo(folder, room, name, cross)
-    keep(name, name, cross)
+    cargo(folder, room, name)
+    keep(name, name)
 
 
 def sides(name, sources=None):
     """Builds the oracle, our archive and a program over both; answers the hashes of all three."""
     folder, hashes = oracle(sources)
-    cross = ()
-    if platform.machine() != "x86_64":
-        folder, cross = DEBIAN, crossing()
-        version = ".".join(map(str, version_of(folder / "rustc")))
-        print(f"compare: both sides of {name} are built for x86-64, the Rust by rustc {version}, and run under an emulator", flush=True)
-    if subprocess.run(["rt", "staticlib", "capi"], cwd=TOP, stdout=subprocess.DEVNULL).returncode:
-        fail("rt staticlib capi failed")
-    archive = ARCHIVES / "libcapi.a"
-    write(OUT / name / "build.rs", LINKED.format(folder=ARCHIVES, archive=archive))
-    program(name, folder, {"decoder": "by-01"}, cross)
+    try:
+        retarget.archives()
+    except retarget.Fault as fault:
+        fail(fault)
+    archive = retarget.ARCHIVES[platform.machine()]
+    write(OUT / name / "build.rs", LINKED.format(folder=archive.parent, archive=archive))
+    program(name, folder, {"decoder": "by-01"})
     programs = hashlib.sha256(b"".join(path.read_bytes() for path in sorted((HERE / "sides").glob("*.rs")))).hexdigest()
     return {"rust": hashes["by-01"], "archive": hashlib.sha256(archive.read_bytes()).hexdigest(), "programs": programs}
 

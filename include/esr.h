@@ -1,11 +1,12 @@
-/* Arm exception syndromes (ESR_ELx), decoded: the C functions of libesr.a.
+/* Arm exception syndromes (ESR_ELx), decoded: the C functions of libesr.a, for AArch64 (bare metal or Linux) and for x86-64.
 
    Every function takes any value, bytes and lengths. It never allocates, keeps no state, and calls nothing but memcpy and memset.
    Each is proved to answer what its promise says (crates/capi/specs/Promises.antt); what is said here is that promise in words. The layout
    of the structs below is not proved: the assertions at the end and tools/capi hold it against the archive.
 
    What the caller owes: a pointer that is not null, also where the length is 0, to as many elements as the length says, which nothing else
-   writes during the call. C99. The archive is for little-endian x86-64. */
+   writes during the call. C99. Both archives are little-endian. The one for AArch64 uses no floating-point or vector register
+   and makes no unaligned access. */
 #ifndef ESR_H
 #define ESR_H
 
@@ -81,7 +82,7 @@ typedef struct esr_entry {
 } esr_entry;
 
 /* Decodes a value into the front of the caller's array: RES0, ISS2, EC, IL and ISS, then ISS's own records, from high bits to low.
-   First 37..64 must be 0, then the class is looked up, then its layout's checks in their order; the first failure answers, by 1 to 7. Then
+   First bits 37 to 63 must be 0, then the class is looked up, then its layout's checks in their order; the first failure answers, by 1 to 7. Then
    an array that has fewer slots than there are records is refused by 11, which carries the slots needed. A refusal leaves the array as it
    was; accepted, the slots after the records stay as they were. */
 esr_filled esr_decode(uint64_t esr, esr_record *slots, size_t length);

@@ -351,7 +351,11 @@ static void call_read_entry(void) {
 
 __attribute__((noinline)) static size_t stack_of(void (*call)(void)) {
     volatile uint8_t *top;
+#if defined(__aarch64__)
+    __asm__ volatile("mov %0, sp" : "=r"(top));
+#else
     __asm__ volatile("mov %%rsp, %0" : "=r"(top));
+#endif
     for (size_t i = 1; i <= PAINTED; i++) {
         top[-(ptrdiff_t)i] = SENTINEL;
     }

@@ -1,4 +1,4 @@
-//! Our archive (`rt staticlib capi`), as include/esr.h declares it.
+//! Our archive of this processor, as include/esr.h declares it.
 
 /// The most records that an answer has.
 pub const SLOTS: usize = 19;

@@ -1,0 +1,213 @@
+"""The proved code for AArch64: the LLVM module that the toolchain makes of it, compiled a second time.
+
+The toolchain compiles for x86-64 alone. Its back end makes one LLVM module of the proved code and hands it to its clang, which knows AArch64 too. `kept`
+runs rt with a clang that first keeps the module; `retargeted` changes what names the processor in it, and nothing else; `assembled` has the same
+clang compile it. What is proved is the code before the back end, on either processor alike.
+
+Both processors are little-endian, with the same integers and alignments and pointers of 64 bits, so that whatever the back end worked out for one holds for the
+other. One thing differs: a struct of more than 16 bytes is returned through a pointer, which x86-64 has as the first argument and AArch64 in a register of its
+own. The module has it as the first argument, and returns it; LLVM takes it for the result's where it is marked `sret`.
+
+A module that looks otherwise than expected ends the tool: nothing is compiled of what is not understood."""
+import os
+import platform
+import re
+import shutil
+import subprocess
+from pathlib import Path
+
+TOP = Path(__file__).resolve().parent.parent
+ROOM = TOP / "target" / "retarget"
+HEADER = TOP / "include" / "esr.h"
+BUILT = TOP / "target" / "staticlib" / "libcapi.a"
+# The archive of the C functions for each processor, as `archives` writes it.
+ARCHIVES = {machine: ROOM / machine / "libesr.a" for machine in ("x86_64", "aarch64")}
+
+# What the module may say of its processor, of its functions and of what it asks for.
+LAYOUT = "e-m:e-p270:32:32-p271:32:32-p272:64:64-i64:64-i128:128-f80:128-n8:16:32:64-S128"
+TRIPLE = "x86_64-unknown-linux-gnu"
+ATTRIBUTES = {"nounwind", "nobuiltin", "nocallback", "nofree", "willreturn", "cold", "noreturn", '"probe-stack"="inline-asm"', '"target-cpu"="x86-64"'}
+MEMORY = re.compile(r"memory\([a-z: ,]+\)")
+# Attributes of the one processor: its name, and how it probes a stack that grows by more than a page.
+OF_X86_64 = ('"probe-stack"="inline-asm"', '"target-cpu"="x86-64"')
+DECLARED = {"llvm.memmove.p0.p0.i64", "llvm.memcpy.p0.p0.i64", "llvm.memset.p0.i64", "llvm.trap", "read", "write"}
+ARGUMENT = r"(?:i16|i64|ptr) noundef %a\d+"
+EXPORTED = re.compile(rf"define noundef ptr @(\w+)\(ptr noundef %a0((?:, {ARGUMENT})*)\) #\d+ \{{")
+MAIN = re.compile(r"define i32 @main\(\) #\d+ \{")
+
+# A boot stage may run before the floating-point and vector registers are enabled, and before the MMU is on, when no access may be unaligned. As
+# position-independent code it goes into any program of Linux too.
+BARE = ("--target=aarch64-unknown-none-elf", "-mgeneral-regs-only", "-mstrict-align", "-fPIC")
+LINUX = ("--target=aarch64-unknown-linux-gnu", "-fPIE")
+# As the toolchain has them for x86-64.
+OPTIONS = ("-O3", "-ffunction-sections", "-fdata-sections", "-mllvm", "-trap-unreachable", "-mllvm", "-no-trap-after-noreturn", "--no-default-config", "-Werror")
+
+
+class Fault(Exception):
+    """What does not hold, or is not there."""
+
+
+def run(*command, **more):
+    done = subprocess.run([str(word) for word in command], capture_output=True, check=False, **more)
+    if done.returncode != 0:
+        said = (done.stdout + done.stderr).decode(errors="replace")
+        raise Fault(f"{Path(str(command[0])).name} ended with {done.returncode}:\n{said}")
+    return done.stdout
+
+
+# ---- the toolchain
+
+
+def kit():
+    """The folder of the toolchain."""
+    rt = shutil.which("rt")
+    if rt is None:
+        raise Fault("there is no 'rt' on the PATH")
+    return Path(os.environ.get("RATTLE_HOME") or Path(rt).resolve().parent.parent)
+
+
+def toolchain():
+    """Where the toolchain has its compiler, linker and archiver for this machine."""
+    tools = kit() / "on" / platform.machine() / "toolchain" / "bin"
+    for name in ("clang", "ld.lld", "llvm-ar"):
+        if not (tools / name).is_file():
+            raise Fault(f"the toolchain has no {name} in {tools}")
+    return tools
+
+
+def linked(folder, target, *, but):
+    """The entries of a folder, as links, but one."""
+    target.mkdir(parents=True)
+    for entry in folder.iterdir():
+        if entry.name != but:
+            (target / entry.name).symlink_to(entry)
+
+
+def shadow(module):
+    """The toolchain again, as links, with a clang that first copies the module that it is handed to this path. The path stands in its text, since the back end
+    hands clang no variables."""
+    own, machine = ROOM / "kit", platform.machine()
+    shutil.rmtree(own, ignore_errors=True)
+    real = kit() / "on" / machine / "toolchain"
+    linked(kit(), own, but="on")
+    linked(real.parent, own / "on" / machine, but="toolchain")
+    linked(real, own / "on" / machine / "toolchain", but="bin")
+    linked(real / "bin", own / "on" / machine / "toolchain" / "bin", but="clang")
+    clang = own / "on" / machine / "toolchain" / "bin" / "clang"
+    clang.write_text(f'#!/bin/sh\n[ ! -f module.bc ] || cp module.bc "{module}"\nexec "{real}/bin/clang" "$@"\n')
+    clang.chmod(0o755)
+    return own
+
+
+def kept(name, *command):
+    """The module of a crate, which a command of rt has compiled."""
+    module = ROOM / f"{name}.bc"
+    module.parent.mkdir(parents=True, exist_ok=True)
+    module.unlink(missing_ok=True)
+    run(*command, cwd=TOP, env={**os.environ, "RATTLE_HOME": str(shadow(module))})
+    if not module.is_file():
+        raise Fault(f"'{' '.join(command)}' handed clang no module: the toolchain compiles in another way than is known here")
+    return module
+
+
+# ---- the module
+
+
+def text_of(module, tools):
+    """The module as text, unchanged."""
+    text = module.with_suffix(".ll")
+    run(tools / "clang", f"--target={TRIPLE}", "-S", "-emit-llvm", "-x", "ir", module, "-O0", "-Xclang", "-disable-llvm-passes", "-o", text)
+    return text.read_text()
+
+
+def expect(holds, what):
+    if not holds:
+        raise Fault(f"the module of the toolchain looks otherwise than expected: {what}. Nothing was compiled of it")
+
+
+def understood(text):
+    """Refuses a module that says something unknown of its processor, its functions or what it asks for."""
+    expect(re.findall(r'^target datalayout = "(.*)"$', text, re.M) == [LAYOUT], "its data layout")
+    expect(re.findall(r'^target triple = "(.*)"$', text, re.M) == [TRIPLE], "its processor")
+    for group in re.findall(r"^attributes #\d+ = \{ (.*) \}$", text, re.M):
+        unknown = set(MEMORY.sub("", group).split()) - ATTRIBUTES
+        expect(not unknown, f"the attributes {sorted(unknown)}")
+    unknown = set(re.findall(r'^declare [^@]*@"?([\w.]+)', text, re.M)) - DECLARED
+    expect(not unknown, f"it asks for {sorted(unknown)}")
+    expect(not re.search(r"^module asm|\basm sideeffect", text, re.M), "it has assembly")
+
+
+def exported(line, sizes):
+    """The line that begins an exported function, with the pointer to its answer marked as the result's."""
+    function = EXPORTED.fullmatch(line)
+    expect(function is not None, f"the exported function '{line}'")
+    name = function.group(1)
+    expect(name in sizes and sizes[name] > 16, f"{name} returns a struct that the header does not have, or one of at most 16 bytes")
+    return line.replace("define noundef ptr", "define void", 1).replace("ptr noundef %a0", f"ptr noundef sret([{sizes[name]} x i8]) align 8 %a0", 1)
+
+
+def retargeted(text, triple, sizes):
+    """The module for another processor. Sizes has the bytes of the struct that each exported function returns."""
+    understood(text)
+    lines, found, returns = [], set(), None
+    for line in text.splitlines():
+        if line.startswith("target datalayout"):
+            continue
+        if line.startswith("target triple"):
+            line = f'target triple = "{triple}"'
+        elif line.startswith("attributes "):
+            for attribute in OF_X86_64:
+                line = line.replace(f" {attribute}", "")
+        elif line.startswith("define ") and not line.startswith("define internal ") and not MAIN.fullmatch(line):
+            line = exported(line, sizes)
+            found.add(re.search(r"@(\w+)", line).group(1))
+            returns = re.compile(r"\s*ret ptr %\w+")
+        elif returns and line.lstrip().startswith("ret "):
+            expect(returns.fullmatch(line) is not None, f"an exported function ends with '{line.strip()}'")
+            line = "  ret void"
+        elif line == "}":
+            returns = None
+        lines.append(line)
+    expect(found == set(sizes), f"it exports {sorted(found)}")
+    return "\n".join(lines) + "\n"
+
+
+def compiled(module, text, options, tools):
+    """The object file of a module for another processor."""
+    source, target = module.with_suffix(".aarch64.ll"), module.with_suffix(".aarch64.o")
+    source.write_text(text)
+    run(tools / "clang", *options, *OPTIONS, "-c", "-x", "ir", source, "-o", target)
+    return target
+
+
+# ---- the archives
+
+
+def returned():
+    """The functions that the header declares, each with the bytes of the struct that it returns."""
+    text = re.sub(r"/\*.*?\*/", "", HEADER.read_text(), flags=re.S)
+    sizes = dict(re.findall(r"sizeof\((esr_\w+)\) == (\d+)", text))
+    return {name: int(sizes[kind]) for kind, name in re.findall(r"^(\w+) (esr_\w+)\(", text, flags=re.M)}
+
+
+def archives():
+    """Proves the C functions and writes their archive for each processor, from one module: the toolchain's own for x86-64, and one for AArch64, bare metal or
+    Linux."""
+    tools = toolchain()
+    module = kept("capi", "rt", "staticlib", "capi")
+    text = retargeted(text_of(module, tools), "aarch64-unknown-none-elf", returned())
+    for path in ARCHIVES.values():
+        path.parent.mkdir(parents=True, exist_ok=True)
+        path.unlink(missing_ok=True)
+    shutil.copyfile(BUILT, ARCHIVES["x86_64"])
+    run(tools / "llvm-ar", "rcs", ARCHIVES["aarch64"], compiled(module, text, BARE, tools))
+
+
+# ---- what the object code holds
+
+
+def of_vectors(word):
+    """Whether an instruction uses a floating-point or vector register, by the groups of the Arm manual's "A64 instruction set encoding": op0, bits 25 to
+    28, is x111 for scalar floating-point and Advanced SIMD and 0010 for SVE; in loads and stores, x1x0, bit 26 says so; SME has 0000 and bit 31."""
+    op0 = word >> 25 & 0xF
+    return op0 & 0x7 == 0x7 or op0 == 0x2 or (op0 & 0x5 == 0x4 and bool(word >> 26 & 1)) or (op0 == 0 and bool(word >> 31))
