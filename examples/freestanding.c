@@ -1,10 +1,8 @@
-/* What stands around a program here in place of a unit, with no C library: its start and end, put() to standard output, and memcpy and
-   memset, the two functions that the archive asks for. Linux, on x86-64 or AArch64; what differs stands at the top. */
+/* What stands around a program here in place of a unit, with no C library: its start and end, and put() to standard output. Linux, on x86-64 or
+   AArch64; what differs stands at the top. */
 #include "put.h"
 
 int main(void);
-void *memcpy(void *restrict to, const void *restrict from, size_t length);
-void *memset(void *to, int byte, size_t length);
 void begin(void);
 
 #if defined(__aarch64__)
@@ -48,22 +46,6 @@ void put(const uint8_t *bytes, size_t length) {
         bytes += written;
         length -= (size_t)written;
     }
-}
-
-void *memcpy(void *restrict to, const void *restrict from, size_t length) {
-    uint8_t *bytes = to;
-    for (size_t i = 0; i < length; i++) {
-        bytes[i] = ((const uint8_t *)from)[i];
-    }
-    return to;
-}
-
-void *memset(void *to, int byte, size_t length) {
-    uint8_t *bytes = to;
-    for (size_t i = 0; i < length; i++) {
-        bytes[i] = (uint8_t)byte;
-    }
-    return to;
 }
 
 void begin(void) {

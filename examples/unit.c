@@ -1,5 +1,5 @@
 /* A boot stage of the unit: reads the entry at the front of a flash block and writes its listing, or why it is not believed.
-   What a unit has to bring: put(), memcpy and memset, as freestanding.c has them for Linux. */
+   What a unit has to bring: put(), as freestanding.c has it for Linux, and memcpy and memset (memory.c). */
 #include "boot.h"
 
 /* Two bytes of length, version 1, two of sequence, eight of ESR; after them flash that was never written. */

@@ -1,5 +1,5 @@
-/* What stands around a program on the board `virt` of an emulator, with no operating system: put() to its serial line, memcpy and memset, a restart, and what
-   takes an exception that the program does not. */
+/* What stands around a program on the board `virt` of an emulator, with no operating system: put() to its serial line, a restart, and what takes an
+   exception that the program does not. */
 #include "bare.h"
 #include "put.h"
 
@@ -7,30 +7,12 @@
 extern volatile uint32_t serial;
 
 int main(void);
-void *memcpy(void *restrict to, const void *restrict from, size_t length);
-void *memset(void *to, int byte, size_t length);
 void start(void);
 
 void put(const uint8_t *bytes, size_t length) {
     for (size_t i = 0; i < length; i++) {
         serial = bytes[i];
     }
-}
-
-void *memcpy(void *restrict to, const void *restrict from, size_t length) {
-    uint8_t *bytes = to;
-    for (size_t i = 0; i < length; i++) {
-        bytes[i] = ((const uint8_t *)from)[i];
-    }
-    return to;
-}
-
-void *memset(void *to, int byte, size_t length) {
-    uint8_t *bytes = to;
-    for (size_t i = 0; i < length; i++) {
-        bytes[i] = (uint8_t)byte;
-    }
-    return to;
 }
 
 /* The board's firmware, by Arm's PSCI. */
