@@ -20,6 +20,8 @@ TOP = Path(__file__).resolve().parent.parent
 ROOM = TOP / "target" / "retarget"
 HEADER = TOP / "include" / "esr.h"
 BUILT = TOP / "target" / "staticlib" / "libcapi.a"
+MEMORY = TOP / "examples" / "memory.c"
+PROGRAMS = ROOM / "bin"
 # The archive of the C functions for each processor, as `archives` writes it.
 ARCHIVES = {machine: ROOM / machine / "libesr.a" for machine in ("x86_64", "aarch64")}
 
@@ -27,7 +29,7 @@ ARCHIVES = {machine: ROOM / machine / "libesr.a" for machine in ("x86_64", "aarc
 LAYOUT = "e-m:e-p270:32:32-p271:32:32-p272:64:64-i64:64-i128:128-f80:128-n8:16:32:64-S128"
 TRIPLE = "x86_64-unknown-linux-gnu"
 ATTRIBUTES = {"nounwind", "nobuiltin", "nocallback", "nofree", "willreturn", "cold", "noreturn", '"probe-stack"="inline-asm"', '"target-cpu"="x86-64"'}
-MEMORY = re.compile(r"memory\([a-z: ,]+\)")
+EFFECTS = re.compile(r"memory\([a-z: ,]+\)")
 # Attributes of the one processor: its name, and how it probes a stack that grows by more than a page.
 OF_X86_64 = ('"probe-stack"="inline-asm"', '"target-cpu"="x86-64"')
 DECLARED = {"llvm.memmove.p0.p0.i64", "llvm.memcpy.p0.p0.i64", "llvm.memset.p0.i64", "llvm.trap", "read", "write"}
@@ -41,6 +43,27 @@ BARE = ("--target=aarch64-unknown-none-elf", "-mgeneral-regs-only", "-mstrict-al
 LINUX = ("--target=aarch64-unknown-linux-gnu", "-fPIE")
 # As the toolchain has them for x86-64.
 OPTIONS = ("-O3", "-ffunction-sections", "-fdata-sections", "-mllvm", "-trap-unreachable", "-mllvm", "-no-trap-after-noreturn", "--no-default-config", "-Werror")
+
+
+# How C is compiled. The toolchain's compiler comes without headers, so stddef.h and stdint.h are written from the types that it defines by itself.
+HEADERS = ROOM / "include"
+C = ("-std=c99", "-pedantic", "-Wall", "-Wextra", "-Werror", "-O2", "-ffreestanding", "-fno-builtin", "-fno-stack-protector", "-fno-pic", "-nostdinc")
+C += ("-isystem", HEADERS, "-I", TOP / "examples")
+STDDEF = """#ifndef STDDEF_H
+#define STDDEF_H
+typedef __SIZE_TYPE__ size_t;
+typedef __PTRDIFF_TYPE__ ptrdiff_t;
+#define offsetof(type, member) __builtin_offsetof(type, member)
+#endif
+"""
+STDINT = """#ifndef STDINT_H
+#define STDINT_H
+typedef __UINT8_TYPE__ uint8_t;
+typedef __UINT16_TYPE__ uint16_t;
+typedef __UINT32_TYPE__ uint32_t;
+typedef __UINT64_TYPE__ uint64_t;
+#endif
+"""
 
 
 class Fault(Exception):
@@ -75,6 +98,12 @@ def toolchain():
     return tools
 
 
+def headers():
+    HEADERS.mkdir(parents=True, exist_ok=True)
+    (HEADERS / "stddef.h").write_text(STDDEF)
+    (HEADERS / "stdint.h").write_text(STDINT)
+
+
 def linked(folder, target, *, but):
     """The entries of a folder, as links, but one."""
     target.mkdir(parents=True)
@@ -86,7 +115,7 @@ def linked(folder, target, *, but):
 def shadow(module):
     """The toolchain again, as links, with a clang that first copies the module that it is handed to this path. The path stands in its text, since the back end
     hands clang no variables."""
-    own, machine = ROOM / "kit", platform.machine()
+    own, machine = ROOM / "kit" / module.stem, platform.machine()
     shutil.rmtree(own, ignore_errors=True)
     real = kit() / "on" / machine / "toolchain"
     linked(kit(), own, but="on")
@@ -99,15 +128,23 @@ def shadow(module):
     return own
 
 
-def kept(name, *command):
-    """The module of a crate, which a command of rt has compiled."""
-    module = ROOM / f"{name}.bc"
-    module.parent.mkdir(parents=True, exist_ok=True)
-    module.unlink(missing_ok=True)
-    run(*command, cwd=TOP, env={**os.environ, "RATTLE_HOME": str(shadow(module))})
-    if not module.is_file():
-        raise Fault(f"'{' '.join(command)}' handed clang no module: the toolchain compiles in another way than is known here")
-    return module
+def module_of(name):
+    """Where the module of a crate is kept."""
+    return ROOM / f"{name}.bc"
+
+
+def keeping(name):
+    """The variables of a command of rt that compiles a crate, so that its module is kept."""
+    module_of(name).parent.mkdir(parents=True, exist_ok=True)
+    module_of(name).unlink(missing_ok=True)
+    return {"RATTLE_HOME": str(shadow(module_of(name)))}
+
+
+def kept(name):
+    """The module of a crate that was compiled so."""
+    if not module_of(name).is_file():
+        raise Fault(f"rt handed clang no module of {name}: the toolchain compiles in another way than is known here")
+    return module_of(name)
 
 
 # ---- the module
@@ -130,7 +167,7 @@ def understood(text):
     expect(re.findall(r'^target datalayout = "(.*)"$', text, re.M) == [LAYOUT], "its data layout")
     expect(re.findall(r'^target triple = "(.*)"$', text, re.M) == [TRIPLE], "its processor")
     for group in re.findall(r"^attributes #\d+ = \{ (.*) \}$", text, re.M):
-        unknown = set(MEMORY.sub("", group).split()) - ATTRIBUTES
+        unknown = set(EFFECTS.sub("", group).split()) - ATTRIBUTES
         expect(not unknown, f"the attributes {sorted(unknown)}")
     unknown = set(re.findall(r'^declare [^@]*@"?([\w.]+)', text, re.M)) - DECLARED
     expect(not unknown, f"it asks for {sorted(unknown)}")
@@ -194,13 +231,43 @@ def archives():
     """Proves the C functions and writes their archive for each processor, from one module: the toolchain's own for x86-64, and one for AArch64, bare metal or
     Linux."""
     tools = toolchain()
-    module = kept("capi", "rt", "staticlib", "capi")
+    run("rt", "staticlib", "capi", cwd=TOP, env={**os.environ, **keeping("capi")})
+    module = kept("capi")
     text = retargeted(text_of(module, tools), "aarch64-unknown-none-elf", returned())
     for path in ARCHIVES.values():
         path.parent.mkdir(parents=True, exist_ok=True)
         path.unlink(missing_ok=True)
     shutil.copyfile(BUILT, ARCHIVES["x86_64"])
     run(tools / "llvm-ar", "rcs", ARCHIVES["aarch64"], compiled(module, text, BARE, tools))
+
+
+# ---- the programs
+
+
+def is_native():
+    """Whether the toolchain compiles for this machine's own processor, so that it need not be done again."""
+    return platform.machine() == "x86_64"
+
+
+def object_of(name, tools):
+    """A program's object file for this machine's processor, from what rt compiled last."""
+    if is_native():
+        return TOP / "target" / "obj" / f"{name}.o"
+    module = kept(name)
+    return compiled(module, retargeted(text_of(module, tools), "aarch64-unknown-linux-gnu", {}), LINUX, tools)
+
+
+def program(name):
+    """A program for this machine's processor, proved and compiled by rt, linked with nothing but its start."""
+    tools = toolchain()
+    headers()
+    PROGRAMS.mkdir(parents=True, exist_ok=True)
+    objects = [object_of(name, tools)]
+    for source in (TOP / "tools" / "start.c", MEMORY):
+        objects.append(PROGRAMS / f"{source.stem}.o")
+        run(tools / "clang", f"--target={platform.machine()}-unknown-linux-gnu", *C, "-c", source, "-o", objects[-1])
+    run(tools / "ld.lld", "-static", "--gc-sections", "-o", PROGRAMS / name, *objects)
+    return PROGRAMS / name
 
 
 # ---- what the object code holds
