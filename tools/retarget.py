@@ -9,11 +9,13 @@ other. One thing differs: a struct of more than 16 bytes is returned through a p
 own. The module has it as the first argument, and returns it; LLVM takes it for the result's where it is marked `sret`.
 
 A module that looks otherwise than expected ends the tool: nothing is compiled of what is not understood."""
+import atexit
 import os
 import platform
 import re
 import shutil
 import subprocess
+import tempfile
 from pathlib import Path
 
 TOP = Path(__file__).resolve().parent.parent
@@ -114,9 +116,11 @@ def linked(folder, target, *, but):
 
 def shadow(module):
     """The toolchain again, as links, with a clang that first copies the module that it is handed to this path. The path stands in its text, since the back end
-    hands clang no variables."""
-    own, machine = ROOM / "kit" / module.stem, platform.machine()
-    shutil.rmtree(own, ignore_errors=True)
+    hands clang no variables. It lies where everyone can reach it, and the repository may not: as root, rt runs a program as nobody."""
+    room, machine = Path(tempfile.mkdtemp(prefix="kit-")), platform.machine()
+    atexit.register(shutil.rmtree, room, ignore_errors=True)
+    room.chmod(0o755)
+    own = room / "kit"
     real = kit() / "on" / machine / "toolchain"
     linked(kit(), own, but="on")
     linked(real.parent, own / "on" / machine, but="toolchain")
