@@ -1,6 +1,8 @@
-/* What stands around a program here in place of a unit, with no C library: its start and end, and put() to standard output. */
+/* What stands around a program here in place of a unit, with no C library: its start and end, put() to standard output and get() from standard input. */
 #include "linux.h"
 #include "put.h"
+
+LINUX_START;
 
 int main(void);
 
@@ -16,6 +18,15 @@ void put(const uint8_t *bytes, size_t length) {
     }
 }
 
-void begin(void) {
+size_t get(uint8_t *bytes, size_t length) {
+    long came = call(READ, 0, (long)bytes, (long)length);
+    if (came < 0) {
+        end(4);
+    }
+    return (size_t)came;
+}
+
+void begin(char **stack) {
+    (void)stack;
     end(main());
 }

@@ -2,13 +2,13 @@
 #ifndef LINUX_H
 #define LINUX_H
 
-/* Where a program starts; the stack is made ready, and begin() is called, which ends the program. */
-void begin(void);
+/* Where a program starts: begin() is called, and ends the program. On the stack lie, as Linux leaves them, the count of the command line's words, and the words. */
+void begin(char **stack);
 
 #if defined(__aarch64__)
-enum { READ = 63, WRITE = 64, EXIT = 93 };
+enum { READ = 63, WRITE = 64, OPEN_AT = 56, CONTROL = 29, EXIT = 93 };
 
-__asm__(".globl _start\n_start:\n\tmov x29, #0\n\tmov x30, #0\n\tbl begin\n");
+#define LINUX_START __asm__(".globl _start\n_start:\n\tmov x29, #0\n\tmov x30, #0\n\tmov x0, sp\n\tbl begin\n")
 
 static inline long call(long number, long a, long b, long c) {
     register long x8 __asm__("x8") = number;
@@ -19,9 +19,9 @@ static inline long call(long number, long a, long b, long c) {
     return x0;
 }
 #else
-enum { READ = 0, WRITE = 1, EXIT = 60 };
+enum { READ = 0, WRITE = 1, OPEN_AT = 257, CONTROL = 16, EXIT = 60 };
 
-__asm__(".globl _start\n_start:\n\txor %ebp, %ebp\n\tand $-16, %rsp\n\tcall begin\n");
+#define LINUX_START __asm__(".globl _start\n_start:\n\txor %ebp, %ebp\n\tmov %rsp, %rdi\n\tand $-16, %rsp\n\tcall begin\n")
 
 static inline long call(long number, long a, long b, long c) {
     long result;

@@ -8,6 +8,9 @@
 
 void put(const uint8_t *bytes, size_t length);
 
+/* At most so many bytes of what comes in; 0 at its end. A unit has none. */
+size_t get(uint8_t *bytes, size_t length);
+
 static inline size_t length_of(const char *words) {
     size_t length = 0;
     while (words[length] != 0) {

@@ -1,7 +1,7 @@
-"""The proved code for AArch64: the LLVM module that the toolchain makes of it, compiled a second time.
+"""The proved code for AArch64 and x86-64: the LLVM module that the toolchain makes of it, compiled a second time.
 
-The toolchain compiles for x86-64 alone. Its back end makes one LLVM module of the proved code and hands it to its clang, which knows AArch64 too. `kept`
-runs rt with a clang that first keeps the module; `retargeted` changes what names the processor in it, and nothing else; `assembled` has the same
+The toolchain compiles for x86-64 alone. Its back end makes one LLVM module of the proved code and hands it to its clang, which knows AArch64 too. `keeping`
+has rt run a clang that first keeps the module; `retargeted` changes what names the processor in it, and nothing else; `compiled` has the same
 clang compile it. What is proved is the code before the back end, on either processor alike.
 
 Both processors are little-endian, with the same integers and alignments and pointers of 64 bits, so that whatever the back end worked out for one holds for the
@@ -10,6 +10,7 @@ own. The module has it as the first argument, and returns it; LLVM takes it for 
 
 A module that looks otherwise than expected ends the tool: nothing is compiled of what is not understood."""
 import atexit
+import hashlib
 import os
 import platform
 import re
@@ -23,9 +24,15 @@ ROOM = TOP / "target" / "retarget"
 HEADER = TOP / "include" / "esr.h"
 BUILT = TOP / "target" / "staticlib" / "libcapi.a"
 MEMORY = TOP / "examples" / "memory.c"
-PROGRAMS = ROOM / "bin"
+COMMAND = TOP / "tools" / "command.c"
+HELP = TOP / "tools" / "command.txt"
+# What the command is made of, besides the proved programs.
+OWN = (Path(__file__), COMMAND, HELP, MEMORY, TOP / "examples" / "linux.h")
+# Of the C functions and of the command. The first number rises with a change of include/esr.h that a caller has to follow, once it is 1.
+RELEASE = "0.1.0"
+MACHINES = ("x86_64", "aarch64")
 # The archive of the C functions for each processor, as `archives` writes it.
-ARCHIVES = {machine: ROOM / machine / "libesr.a" for machine in ("x86_64", "aarch64")}
+ARCHIVES = {machine: ROOM / machine / "libesr.a" for machine in MACHINES}
 
 # What the module may say of its processor, of its functions and of what it asks for.
 LAYOUT = "e-m:e-p270:32:32-p271:32:32-p272:64:64-i64:64-i128:128-f80:128-n8:16:32:64-S128"
@@ -42,7 +49,7 @@ MAIN = re.compile(r"define i32 @main\(\) #\d+ \{")
 # A boot stage may run before the floating-point and vector registers are enabled, and before the MMU is on, when no access may be unaligned. As
 # position-independent code it goes into any program of Linux too.
 BARE = ("--target=aarch64-unknown-none-elf", "-mgeneral-regs-only", "-mstrict-align", "-fPIC")
-LINUX = ("--target=aarch64-unknown-linux-gnu", "-fPIE")
+LINUX = {machine: (f"--target={machine}-unknown-linux-gnu", "-fPIE") for machine in MACHINES}
 # As the toolchain has them for x86-64.
 OPTIONS = ("-O3", "-ffunction-sections", "-fdata-sections", "-mllvm", "-trap-unreachable", "-mllvm", "-no-trap-after-noreturn", "--no-default-config", "-Werror")
 
@@ -53,6 +60,7 @@ C = ("-std=c99", "-pedantic", "-Wall", "-Wextra", "-Werror", "-O2", "-ffreestand
 C += ("-isystem", HEADERS, "-I", TOP / "examples")
 STDDEF = """#ifndef STDDEF_H
 #define STDDEF_H
+#define NULL ((void *)0)
 typedef __SIZE_TYPE__ size_t;
 typedef __PTRDIFF_TYPE__ ptrdiff_t;
 #define offsetof(type, member) __builtin_offsetof(type, member)
@@ -100,10 +108,30 @@ def toolchain():
     return tools
 
 
-def headers():
+def emulator(machine):
+    """What stands before a program for Linux on this processor: nothing where it runs natively, and None where it cannot be run here."""
+    if platform.machine() == machine:
+        return []
+    own = toolchain() / f"qemu-{machine}"
+    found = own if own.is_file() else shutil.which(f"qemu-{machine}")
+    return [found] if found else None
+
+
+def headers(**more):
+    """Writes stddef.h and stdint.h, and what is given by name."""
     HEADERS.mkdir(parents=True, exist_ok=True)
-    (HEADERS / "stddef.h").write_text(STDDEF)
-    (HEADERS / "stdint.h").write_text(STDINT)
+    for name, text in {"stddef": STDDEF, "stdint": STDINT, **more}.items():
+        (HEADERS / f"{name}.h").write_text(text)
+
+
+SHADOWS = []
+
+
+@atexit.register
+def forget_shadows():
+    """Removes what `shadow` made. Who ends this by a signal calls it first."""
+    while SHADOWS:
+        shutil.rmtree(SHADOWS.pop(), ignore_errors=True)
 
 
 def linked(folder, target, *, but):
@@ -118,7 +146,7 @@ def shadow(module):
     """The toolchain again, as links, with a clang that first copies the module that it is handed to this path. The path stands in its text, since the back end
     hands clang no variables. It lies where everyone can reach it, and the repository may not: as root, rt runs a program as nobody."""
     room, machine = Path(tempfile.mkdtemp(prefix="kit-")), platform.machine()
-    atexit.register(shutil.rmtree, room, ignore_errors=True)
+    SHADOWS.append(room)
     room.chmod(0o755)
     own = room / "kit"
     real = kit() / "on" / machine / "toolchain"
@@ -213,12 +241,49 @@ def retargeted(text, triple, sizes):
     return "\n".join(lines) + "\n"
 
 
-def compiled(module, text, options, tools):
-    """The object file of a module for another processor."""
-    source, target = module.with_suffix(".aarch64.ll"), module.with_suffix(".aarch64.o")
+def named(text, name):
+    """The module of a program whose main has a name of its own, so that several can be linked together."""
+    lines = text.splitlines()
+    mains = [place for place, line in enumerate(lines) if MAIN.fullmatch(line)]
+    expect(len(mains) == 1 and len(re.findall(r"@main\b", text)) == 1, "it has no main, or calls it")
+    lines[mains[0]] = lines[mains[0]].replace("@main()", f"@{name}()")
+    return "\n".join(lines) + "\n"
+
+
+def compiled(module, machine, text, options, tools):
+    """The object file of a module for a processor."""
+    source, target = (module.with_suffix(f".{machine}.{kind}") for kind in ("ll", "o"))
     source.write_text(text)
     run(tools / "clang", *options, *OPTIONS, "-c", "-x", "ir", source, "-o", target)
     return target
+
+
+# ---- what was proved
+
+
+def sources():
+    """The sha256 of what is proved: crates.txt, and the code, definitions and proofs of each crate."""
+    digest = hashlib.sha256()
+    crates = TOP / "crates"
+    for path in [TOP / "crates.txt", *sorted(path for part in ("src", "specs", "proofs") for path in crates.glob(f"*/{part}/**/*") if path.is_file())]:
+        data = path.read_bytes()
+        digest.update(f"{path.relative_to(TOP)}\0{len(data)}\0".encode() + data)
+    return digest.hexdigest()
+
+
+def prover():
+    return run("rt", "version").decode().strip()
+
+
+def version(names):
+    """What the command says of itself, whose programs these are."""
+    return f"""\
+esr {RELEASE}: Arm exception syndromes, decoded as google/aarch64-esr-decoder does
+proved: {", ".join(sorted(names)) or "nothing yet"}{", and all that they rest on" if names else ""}
+proved of them: for every input, what a program says of a line is what its definitions say; docs/ASSURANCE.md tells what that takes for granted
+prover: {prover()}
+sources: sha256 {sources()} (crates.txt; src, specs and proofs of each crate)
+"""
 
 
 # ---- the archives
@@ -233,7 +298,12 @@ def returned():
 
 def archives():
     """Proves the C functions and writes their archive for each processor, from one module: the toolchain's own for x86-64, and one for AArch64, bare metal or
-    Linux."""
+    Linux. Those of the same sources, prover and tool are left as they are."""
+    made_of = "\n".join((sources(), prover(), hashlib.sha256(Path(__file__).read_bytes() + HEADER.read_bytes()).hexdigest()))
+    stamp = ROOM / "archives.of"
+    if stamp.is_file() and stamp.read_text() == made_of and all(path.is_file() for path in ARCHIVES.values()):
+        return
+    stamp.unlink(missing_ok=True)
     tools = toolchain()
     run("rt", "staticlib", "capi", cwd=TOP, env={**os.environ, **keeping("capi")})
     module = kept("capi")
@@ -242,36 +312,46 @@ def archives():
         path.parent.mkdir(parents=True, exist_ok=True)
         path.unlink(missing_ok=True)
     shutil.copyfile(BUILT, ARCHIVES["x86_64"])
-    run(tools / "llvm-ar", "rcs", ARCHIVES["aarch64"], compiled(module, text, BARE, tools))
+    run(tools / "llvm-ar", "rcs", ARCHIVES["aarch64"], compiled(module, "aarch64", text, BARE, tools))
+    stamp.write_text(made_of)
 
 
-# ---- the programs
+# ---- the command
 
 
-def is_native():
-    """Whether the toolchain compiles for this machine's own processor, so that it need not be done again."""
-    return platform.machine() == "x86_64"
+def literal(text):
+    """A text as C spells it."""
+    return "\n".join('"' + line.replace("\\", "\\\\").replace('"', '\\"') + '\\n"' for line in text.splitlines())
 
 
-def object_of(name, tools):
-    """A program's object file for this machine's processor, from what rt compiled last."""
-    if is_native():
-        return TOP / "target" / "obj" / f"{name}.o"
+def told(names):
+    """What the command tells of itself: the header told.h."""
+    return "".join(f"#define {name} {literal(text)}\n".replace('"\n"', '" \\\n"') for name, text in (("HELP", HELP.read_text()), ("VERSION", version(names))))
+
+
+def object_of(name, machine, tools):
+    """The object file of a program, from the module that was kept when rt built it."""
     module = kept(name)
-    return compiled(module, retargeted(text_of(module, tools), "aarch64-unknown-linux-gnu", {}), LINUX, tools)
+    text = text_of(module, tools)
+    if machine == "aarch64":
+        text = retargeted(text, "aarch64-unknown-linux-gnu", {})
+    else:
+        understood(text)
+    return compiled(module, machine, named(text, name), LINUX[machine], tools)
 
 
-def program(name):
-    """A program for this machine's processor, proved and compiled by rt, linked with nothing but its start."""
+def command(names, machine, target):
+    """Links the command with these programs, whose modules were kept, for Linux on a processor, with nothing else."""
     tools = toolchain()
-    headers()
-    PROGRAMS.mkdir(parents=True, exist_ok=True)
-    objects = [object_of(name, tools)]
-    for source in (TOP / "tools" / "start.c", MEMORY):
-        objects.append(PROGRAMS / f"{source.stem}.o")
-        run(tools / "clang", f"--target={platform.machine()}-unknown-linux-gnu", *C, "-c", source, "-o", objects[-1])
-    run(tools / "ld.lld", "-static", "--gc-sections", "-o", PROGRAMS / name, *objects)
-    return PROGRAMS / name
+    headers(told=told(names))
+    target.parent.mkdir(parents=True, exist_ok=True)
+    objects = [object_of(name, machine, tools) for name in names]
+    for source in (COMMAND, MEMORY):
+        objects.append(ROOM / f"{source.stem}.{machine}.o")
+        run(tools / "clang", f"--target={machine}-unknown-linux-gnu", *C, "-c", source, "-o", objects[-1])
+    whole = ROOM / f"{target.name}.{machine}"
+    run(tools / "ld.lld", "-static", "--gc-sections", "--strip-all", "-o", whole, *objects)
+    whole.replace(target)  # nobody finds half a program
 
 
 # ---- what the object code holds
