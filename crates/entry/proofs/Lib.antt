@@ -2,3 +2,4 @@ pub mod Laws
 pub mod Theorems
 pub mod Decides
 pub mod Examples
+pub mod Unreached

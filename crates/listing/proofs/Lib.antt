@@ -1,3 +1,4 @@
 pub mod Longest
 pub mod Answers
 pub mod Decides
+pub mod Unreached

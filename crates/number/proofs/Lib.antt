@@ -3,3 +3,4 @@ pub mod Steps
 pub mod Theorems
 pub mod Decides
 pub mod Examples
+pub mod Unreached

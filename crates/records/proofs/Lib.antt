@@ -1,3 +1,4 @@
 pub mod Laws
 pub mod Decides
 pub mod MetByKind
+pub mod Unreached

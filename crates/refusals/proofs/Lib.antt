@@ -1,3 +1,4 @@
 pub mod Cases
 pub mod Decides
 pub mod Theorems
+pub mod Unreached

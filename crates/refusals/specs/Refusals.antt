@@ -2,6 +2,7 @@
 use Prim.Native.Nat.{ℕ}
 use mathlib.Core.Bool.{Bool}
 use mathlib.Core.List.{List, [], _∷_}
+use mathlib.Core.Path.{_≡_}
 use lib.Dec.{eqb}
 use Rattle.refusals.specs.declared.Reason.{Reason}
 use Rattle.refusals.specs.declared.Reason.the-variants.{None, InvalidRes0, InvalidEc, InvalidFsc, InvalidSet, InvalidAet, InvalidAm, InvalidLd64bIss, Empty, InvalidDigit, PosOverflow, ShortBuffer, BadField, BadIndex, ShortEntry, BadLength, BadVersion, Unreached}
@@ -48,3 +49,11 @@ noRefusal = bare None
 -- nothing is refused
 abbrev pub passed : Refusal → Bool
 passed f = eqb (refusalNumber f) 0
+
+-- The answers that a promise allows have 17 only when this is so of what comes in. `shown` is the number that an answer has.
+abbrev pub Answers17 : {In Out : Type 0} → (In → Out → Type 0) → (Out → ℕ) → (In → Type 0) → Type 0
+Answers17 {In} {Out} P shown when = (i : In) (r : Out) → P i r → shown r ≡ 17 → when i
+
+-- whatever comes in
+abbrev pub never : {In : Type 0} → In → Type 0
+never i = ⊥

@@ -2,3 +2,4 @@ pub mod Widths
 pub mod Answers
 pub mod Kept
 pub mod Decides
+pub mod Unreached
