@@ -1,4 +1,3 @@
 pub mod Decides
 pub mod Laws
 pub mod Theorems
-pub mod Unreached

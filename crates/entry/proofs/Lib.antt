@@ -2,4 +2,3 @@ pub mod Laws
 pub mod Theorems
 pub mod Decides
 pub mod Examples
-pub mod Unreached

@@ -89,8 +89,8 @@ pub(crate) fn decode_iss_data_abort(iss: u64) -> Layout
             return Layout {
                 rows: [isv, sas, sse, srt, sf, ar, vncr, set, fnv, ea, cm, s1ptw, wnr, dfsc],
                 count: 14,
-                checks: [1, 13, 7, 0, 0, 0, 0, 0, 0, 0, 0, 0, 0, 0],
-                checked: 3,
+                checks: [13, 7, 0, 0, 0, 0, 0, 0, 0, 0, 0, 0, 0, 0],
+                checked: 2,
                 rule: r::PLAIN,
             };
         }
@@ -98,8 +98,8 @@ pub(crate) fn decode_iss_data_abort(iss: u64) -> Layout
         return Layout {
             rows: [isv, sas, sse, srt, sf, ar, vncr, res0_11, fnv, ea, cm, s1ptw, wnr, dfsc],
             count: 14,
-            checks: [1, 13, 0, 0, 0, 0, 0, 0, 0, 0, 0, 0, 0, 0],
-            checked: 2,
+            checks: [13, 0, 0, 0, 0, 0, 0, 0, 0, 0, 0, 0, 0, 0],
+            checked: 1,
             rule: r::PLAIN,
         };
     }

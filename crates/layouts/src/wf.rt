@@ -21,8 +21,8 @@ pub(crate) fn decode_iss_wf(iss: u64) -> Layout
     Layout {
         rows: [cv, cond, res0_10, rn, res0_3, rv, ti, o, o, o, o, o, o, o],
         count: 7,
-        checks: [2, 4, 6, 0, 0, 0, 0, 0, 0, 0, 0, 0, 0, 0],
-        checked: 3,
+        checks: [2, 4, 0, 0, 0, 0, 0, 0, 0, 0, 0, 0, 0, 0],
+        checked: 2,
         rule: r::PLAIN,
     }
 }

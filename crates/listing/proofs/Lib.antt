@@ -1,4 +1,3 @@
 pub mod Longest
 pub mod Answers
 pub mod Decides
-pub mod Unreached

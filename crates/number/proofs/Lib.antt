@@ -3,4 +3,3 @@ pub mod Steps
 pub mod Theorems
 pub mod Decides
 pub mod Examples
-pub mod Unreached

@@ -4,7 +4,7 @@ use mathlib.Core.Path.{_≡_, refl, sym, ap, _∙_, subst}
 use mathlib.Core.Bool.{Bool, true, false, cond, not, _&&_, _||_}
 use mathlib.Core.List.{List, [], _∷_, List·Memᴰ, List·Memᴰ·head, List·Memᴰ·tail, List·Memᴰ·cases-cons, List·Memᴰ·eq-of-singleton, List·Memᴰ·not-nil}
 use mathlib.Core.Logic.{_⊎_, inl, inr}
-use Prim.Native.Nat.{ℕ, zero, suc, _^_, _≤_, _<_}
+use Prim.Native.Nat.{ℕ, zero, suc, _≤_, _<_}
 use native.Mathlib.Nat.{zero-add}
 use native.Mathlib.Omega.{arith}
 use lib.Dec.{T, eqb, ltb, eqb→eq, T-not}
@@ -15,7 +15,7 @@ use Rattle.texts.specs.Rules.{rules, className, debugStatus, faultStatus, serro
 use Rattle.texts.specs.Pool.{describes, onList, ruleAt}
 use Rattle.refusals.specs.Refusals.{reasonNumber, refusalNumber, noRefusal}
 use Rattle.refusals.specs.declared.Reason.{Reason}
-use Rattle.refusals.specs.declared.Reason.the-variants.{InvalidRes0, InvalidEc, InvalidFsc, InvalidSet, InvalidAet, InvalidAm, InvalidLd64bIss, Unreached}
+use Rattle.refusals.specs.declared.Reason.the-variants.{InvalidRes0, InvalidEc, InvalidFsc, InvalidSet, InvalidAet, InvalidAm, InvalidLd64bIss}
 use Rattle.refusals.specs.declared.Refusal.{Refusal}
 use Rattle.records.specs.Bits.{fieldOf}
 use Rattle.records.specs.Rows.{rowKind}
@@ -120,9 +120,6 @@ test6 classes r = at 1 3 r && (onlyFor (0x06 ∷ []) classes && lacks (5 ∷ 7 �
 abbrev test7 : List ℕ → Row → Bool
 test7 classes r = at 0 25 r && (onlyFor (0x0A ∷ []) classes && lacks [] 3 r)
 
-abbrev test17 : Row → Bool
-test17 r = eqb (r .width) 2 && lacks [] 4 r
-
 abbrev tested : Served → ℕ → Line → Bool
 tested s i l =
     for 1 (l .row) (isChecked (rowKind (l .row)))
@@ -131,8 +128,7 @@ tested s i l =
     && (for 4 (l .row) (test4 (s .classes) l)
     && (for 5 (l .row) (test5 s l)
     && (for 6 (l .row) (test6 (s .classes) (l .row))
-    && (for 7 (l .row) (test7 (s .classes) (l .row))
-    && for 17 (l .row) (test17 (l .row))))))))
+    && for 7 (l .row) (test7 (s .classes) (l .row)))))))
 
 abbrev testedTable : ℕ → Served → Bool
 testedTable i s = every (tested s) 0 (s .table .lines)
@@ -297,7 +293,6 @@ module _ (v : ℕ) (f : Refusal) (s : Served) (k : Classed v s) (i : ℕ) (l : L
       let t5 : _ = both-right (for 4 r (test4 cs l)) _ t4 in
       let t6 : _ = both-right (for 5 r (test5 s l)) _ t5 in
       let t7 : _ = both-right (for 6 r (test6 cs r)) _ t6 in
-      let t17 : _ = both-right (for 7 r (test7 cs r)) _ t7 in
       record {
         invalidRes0 = unmet-zero of (for-at 1 r (isChecked (rowKind r)) (both-left (for 1 r (isChecked (rowKind r))) _ t)) u;
         invalidEc = λ e. absurd (by-number 2 InvalidEc false (both-left (for 2 r false) _ t2) refl e);
@@ -341,18 +336,12 @@ module _ (v : ℕ) (f : Refusal) (s : Served) (k : Classed v s) (i : ℕ) (l : L
             );
         invalidLd64bIss =
             λ e.
-            let x : T (test7 cs r) = by-number 7 InvalidLd64bIss (test7 cs r) (both-left (for 7 r (test7 cs r)) _ t7) refl e in
+            let x : T (test7 cs r) = by-number 7 InvalidLd64bIss (test7 cs r) t7 refl e in
             let y : _ = both-right (at 0 25 r) _ x in (
               bits-at 0 25 (both-left (at 0 25 r) _ x),
               above (ltb (f .carries) 3) refl (λ h. value-in [] 3 (both-right (onlyFor (0x0A ∷ []) cs) _ y) h (not-one 5 InvalidLd64bIss refl e)),
               class-in (0x0A ∷ []) (both-left (onlyFor (0x0A ∷ []) cs) _ y),
             );
-        unreached =
-            λ e.
-            let x : T (test17 r) = by-number 17 Unreached (test17 r) t17 refl e in
-            let w : r .width ≡ 2 = eqb→eq (r .width) 2 (both-left (eqb (r .width) 2) _ x) in
-            List·Memᴰ·not-nil
-            (value-in [] 4 (both-right (eqb (r .width) 2) _ x) (subst (λ (y : ℕ). f .carries < 2 ^ y) w (unmet-bits u .fits)) (not-one 15 Unreached refl e));
       }
     where
       above : (b : Bool) → ltb (f .carries) 3 ≡ b → (f .carries < 3 → List·Memᴰ (f .carries) []) → 2 < f .carries
@@ -493,7 +482,6 @@ module _ (v : ℕ) (f : Refusal) where
         invalidAet = differs InvalidAet e tt;
         invalidAm = differs InvalidAm e tt;
         invalidLd64bIss = differs InvalidLd64bIss e tt;
-        unreached = differs Unreached e tt;
       }
 
   class-given : Unmet v class f → GivenWhen v f
@@ -508,7 +496,6 @@ module _ (v : ℕ) (f : Refusal) where
         invalidAet = differs InvalidAet e tt;
         invalidAm = differs InvalidAm e tt;
         invalidLd64bIss = differs InvalidLd64bIss e tt;
-        unreached = differs Unreached e tt;
       }
     where
       by : (s : Served) → Classed v s → ClassOf v → ⊥

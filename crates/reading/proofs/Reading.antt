@@ -57,7 +57,7 @@ module _ (esr : ℕ) (r : Answer) (d : Decoded esr r) where
       by (read l j e) = absurd (h (accepted-is r l (d ∙ e) .0))
       by (refuses f j e) = subst (Refusing esr) (sym (refused-is r f (d ∙ e))) j
 
-  -- Every value is accepted, or refused by one of the numbers 1 to 7 and 17.
+  -- Every value is accepted, or refused by one of the numbers 1 to 7.
   pub accepted-or-refused : (r .refusal ≡ noRefusal) ⊎ List·Memᴰ (refusalNumber (r .refusal)) refusing
   accepted-or-refused = by (outcome esr)
     where

@@ -3,7 +3,7 @@ use Prim.Native.Nat.{ℕ, _<_}
 use mathlib.Core.List.{List, [], _∷_, List·Memᴰ}
 use mathlib.Core.Path.{_≡_}
 use Rattle.texts.specs.Rules.{debugStatus, faultStatus, serrorStatus}
-use Rattle.refusals.specs.declared.Reason.the-variants.{InvalidRes0, InvalidEc, InvalidFsc, InvalidSet, InvalidAet, InvalidAm, InvalidLd64bIss, Unreached}
+use Rattle.refusals.specs.declared.Reason.the-variants.{InvalidRes0, InvalidEc, InvalidFsc, InvalidSet, InvalidAet, InvalidAm, InvalidLd64bIss}
 use Rattle.refusals.specs.declared.Refusal.{Refusal}
 use Rattle.records.specs.Kinds.{Checked}
 use Rattle.records.specs.Rows.{rowKind}
@@ -51,8 +51,7 @@ pub record AetRead (v : ℕ) : Type 0 where
   pub listed : Listed (serrorStatus .number) status
 
 -- 1: "a checked reserved field isn't 0". 2: "class not tabulated". 3: "a status that is read isn't on its list". 4: "status 0x10 in an abort
--- class and SET = 1". 5: "AET 4, 5 or 7 where AET is read". 6: "AM 5 or 7". 7: "class 0x0A, ISS above 2". 17: "SAS or TI above 3", which two
--- bits never hold.
+-- class and SET = 1". 5: "AET 4, 5 or 7 where AET is read". 6: "AM 5 or 7". 7: "class 0x0A, ISS above 2".
 pub record GivenWhen (v : ℕ) (f : Refusal) : Type 0 where
   pub invalidRes0 : f .reason ≡ InvalidRes0 → Reserved v (f .carries) × (f .carries ≡ 0 → ⊥)
   pub invalidEc : f .reason ≡ InvalidEc → HasBits v 26 6 (f .carries) × ((s : Served) → Classed v s → ⊥)
@@ -61,4 +60,3 @@ pub record GivenWhen (v : ℕ) (f : Refusal) : Type 0 where
   pub invalidAet : f .reason ≡ InvalidAet → HasBits v 10 3 (f .carries) × List·Memᴰ (f .carries) (4 ∷ 5 ∷ 7 ∷ []) × AetRead v
   pub invalidAm : f .reason ≡ InvalidAm → HasBits v 1 3 (f .carries) × List·Memᴰ (f .carries) (5 ∷ 7 ∷ []) × ClassIn v (0x06 ∷ [])
   pub invalidLd64bIss : f .reason ≡ InvalidLd64bIss → HasBits v 0 25 (f .carries) × (2 < f .carries) × ClassIn v (0x0A ∷ [])
-  pub unreached : f .reason ≡ Unreached → ⊥

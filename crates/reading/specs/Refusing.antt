@@ -13,9 +13,9 @@ use Rattle.records.specs.declared.Row.{Row}
 use Rattle.tables.specs.Tables.{reserved, class, Served}
 use Rattle.reading.specs.Reading.{HasBits, Applying, Listed, Allowed, Classed}
 
--- the numbers that a value can be refused by: 1 to 7, and 17
+-- the numbers that a value can be refused by
 abbrev pub refusing : List ℕ
-refusing = 1 ∷ 2 ∷ 3 ∷ 4 ∷ 5 ∷ 6 ∷ 7 ∷ 17 ∷ []
+refusing = 1 ∷ 2 ∷ 3 ∷ 4 ∷ 5 ∷ 6 ∷ 7 ∷ []
 
 -- a row's field of a value is as the row asks
 pub record Met (v : ℕ) (row : Row) : Type 0 where

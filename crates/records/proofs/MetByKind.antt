@@ -34,7 +34,7 @@ listed (Coded reason) = true
 abbrev tested : ℕ → Kind → Bool
 tested n k = cond (ltb n 2) (silent k) (cond (ltb 2 n) (listed k) true)
 
-test-at : (n : ℕ) → n < 10 → T (tested n (kindOf n))
+test-at : (n : ℕ) → n < 9 → T (tested n (kindOf n))
 unfolding kindOf
 test-at n h = every-at tested kinds Free tt n h
 
@@ -50,22 +50,22 @@ listed-allows Unchecked rule value t = absurd t
 listed-allows Checked rule value t = absurd t
 listed-allows (Coded reason) rule value t = refl
 
-pub coded-allows : (n rule value : ℕ) → 2 < n → n ≤ 9 → allows (kindOf n) rule value ≡ describes rule value
+pub coded-allows : (n rule value : ℕ) → 2 < n → n ≤ 8 → allows (kindOf n) rule value ≡ describes rule value
 coded-allows n rule value a b =
     listed-allows (kindOf n) rule value
     (subst (λ (c : Bool). T (cond c (listed (kindOf n)) true)) (lt-ltb 2 n a)
     (subst (λ (c : Bool). T (cond c (silent (kindOf n)) (cond (ltb 2 n) (listed (kindOf n)) true))) (le-ltb n 2 (omega arith)) (test-at n (omega arith))))
 
-pub past : (n : ℕ) → 10 ≤ n → kindOf n ≡ Free
+pub past : (n : ℕ) → 9 ≤ n → kindOf n ≡ Free
 unfolding kindOf
 past n h = List·getD-eq-default kinds Free h
 
-pub free-allows : (n rule value : ℕ) → (n ≡ 2 → ⊥) → (2 < n → n ≤ 9 → ⊥) → allows (kindOf n) rule value ≡ true
+pub free-allows : (n rule value : ℕ) → (n ≡ 2 → ⊥) → (2 < n → n ≤ 8 → ⊥) → allows (kindOf n) rule value ≡ true
 free-allows n rule value a b = by (ltb n 2) refl
   where
-    above : (c : Bool) → ltb n 10 ≡ c → 2 ≤ n → 10 ≤ n
-    above true e h = let g : n < 10 = ltb-true n 10 e in absurd (b (omega arith) (omega arith))
-    above false e h = ltb-false n 10 e
+    above : (c : Bool) → ltb n 9 ≡ c → 2 ≤ n → 9 ≤ n
+    above true e h = let g : n < 9 = ltb-true n 9 e in absurd (b (omega arith) (omega arith))
+    above false e h = ltb-false n 9 e
 
     by : (c : Bool) → ltb n 2 ≡ c → allows (kindOf n) rule value ≡ true
     by true e =
@@ -73,10 +73,10 @@ free-allows n rule value a b = by (ltb n 2) refl
         silent-allows (kindOf n) rule value (subst (λ (c : Bool). T (cond c (silent (kindOf n)) (cond (ltb 2 n) (listed (kindOf n)) true))) e (test-at n (omega arith)))
     by false e =
         let h : 2 ≤ n = ltb-false n 2 e in
-        ap (λ (k : Kind). allows k rule value) (past n (above (ltb n 10) refl h))
+        ap (λ (k : Kind). allows k rule value) (past n (above (ltb n 9) refl h))
 
 -- what the last arm of a match on the kinds that refuse knows
-pub no-reason : (n : ℕ) → (2 ≤ n → 10 ≤ n) → None ≡ reasonOf (kindOf n)
+pub no-reason : (n : ℕ) → (2 ≤ n → 9 ≤ n) → None ≡ reasonOf (kindOf n)
 unfolding kindOf
 no-reason zero h = refl
 no-reason (suc zero) h = refl

@@ -7,7 +7,7 @@ use lib.ListN.{getD}
 use Rattle.texts.specs.Pool.{describes}
 use Rattle.refusals.specs.Refusals.{reasonNumber}
 use Rattle.refusals.specs.declared.Reason.{Reason}
-use Rattle.refusals.specs.declared.Reason.the-variants.{None, InvalidRes0, InvalidEc, InvalidFsc, InvalidSet, InvalidAet, InvalidAm, InvalidLd64bIss, Unreached}
+use Rattle.refusals.specs.declared.Reason.the-variants.{None, InvalidRes0, InvalidEc, InvalidFsc, InvalidSet, InvalidAet, InvalidAm, InvalidLd64bIss}
 
 -- free; reserved and unchecked, as 11..13 in aborts without SET; reserved and checked; coded, on the list of its text rule or refused for this reason
 pub data Kind : Type 0 where
@@ -18,7 +18,7 @@ pub data Kind : Type 0 where
 
 -- the reasons of coded rows
 abbrev pub coding : List Reason
-coding = InvalidEc ∷ InvalidFsc ∷ InvalidSet ∷ InvalidAet ∷ InvalidAm ∷ InvalidLd64bIss ∷ Unreached ∷ []
+coding = InvalidEc ∷ InvalidFsc ∷ InvalidSet ∷ InvalidAet ∷ InvalidAm ∷ InvalidLd64bIss ∷ []
 
 -- the kinds of 01's rows; a row names its kind by its index in this list
 abbrev pub kinds : List Kind

@@ -17,6 +17,4 @@ pub const AM: u8 = 7;
 
 pub const LD64B_ISS: u8 = 8;
 
-pub const UNREACHED: u8 = 9;
-
-pub const LAST: u8 = UNREACHED;
+pub const LAST: u8 = LD64B_ISS;

@@ -40,7 +40,6 @@ fn reason_of(kind: u8) -> Reason
         kinds::AET => Reason::InvalidAet,
         kinds::AM => Reason::InvalidAm,
         kinds::LD64B_ISS => Reason::InvalidLd64bIss,
-        kinds::UNREACHED => Reason::Unreached,
         _ => Reason::None,
     }
 }

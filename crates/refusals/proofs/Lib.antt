@@ -1,4 +1,3 @@
 pub mod Cases
 pub mod Decides
 pub mod Theorems
-pub mod Unreached

@@ -1,24 +1,29 @@
--- Every refusal's number is on 01's list, and is that of no other reason: by the cases of the reason, and so of every answer that holds a refusal.
+-- Every refusal's number is on 01's list, is that of no other reason, and is not 17: by the cases of the reason, and so of every answer that holds
+-- a refusal.
+use mathlib.Core.Bool.{cond}
 use mathlib.Core.List.{List, [], _∷_, List·Memᴰ}
-use mathlib.Core.Path.{_≡_, refl, sym, ap, _∙_}
+use mathlib.Core.Path.{_≡_, refl, sym, ap, _∙_, subst}
 use Prim.Native.Nat.{ℕ}
-use lib.Dec.{T}
-use lib.ListN.{getD}
+use lib.Dec.{T, eqb}
 use Rattle.promise.specs.Member.{member}
 use Rattle.promise.proofs.Tests.{of-member}
 use Rattle.refusals.specs.Refusals.{reasonNumber, numbers, refusalNumber}
 use Rattle.refusals.specs.declared.Reason.{Reason}
-use Rattle.refusals.specs.declared.Reason.the-variants.{None, InvalidRes0, InvalidEc, InvalidFsc, InvalidSet, InvalidAet, InvalidAm, InvalidLd64bIss, Empty, InvalidDigit, PosOverflow, ShortBuffer, BadField, BadIndex, ShortEntry, BadLength, BadVersion, Unreached}
+use Rattle.refusals.specs.declared.Reason.the-variants.{None, InvalidRes0, InvalidEc, InvalidFsc, InvalidSet, InvalidAet, InvalidAm, InvalidLd64bIss, Empty, InvalidDigit, PosOverflow, ShortBuffer, BadField, BadIndex, ShortEntry, BadLength, BadVersion}
 use Rattle.refusals.specs.declared.Refusal.{Refusal}
 
--- the reasons by number
 abbrev reasons : List Reason
 reasons =
     None ∷ InvalidRes0 ∷ InvalidEc ∷ InvalidFsc ∷ InvalidSet ∷ InvalidAet ∷ InvalidAm ∷ InvalidLd64bIss ∷ Empty ∷ InvalidDigit ∷ PosOverflow ∷
-    ShortBuffer ∷ BadField ∷ BadIndex ∷ ShortEntry ∷ BadLength ∷ BadVersion ∷ Unreached ∷ []
+    ShortBuffer ∷ BadField ∷ BadIndex ∷ ShortEntry ∷ BadLength ∷ BadVersion ∷ []
+
+-- the reason of a number, and None where no reason has it
+abbrev reasonIn : List Reason → ℕ → Reason
+reasonIn [] n = None
+reasonIn (r ∷ rs) n = cond (eqb n (reasonNumber r)) r (reasonIn rs n)
 
 abbrev Known : Reason → Type 0
-Known reason = T (member (reasonNumber reason) numbers) × (getD reasons (reasonNumber reason) None ≡ reason)
+Known reason = T (member (reasonNumber reason) numbers) × (reasonIn reasons (reasonNumber reason) ≡ reason)
 
 known : (reason : Reason) → Known reason
 unfolding numbers
@@ -39,10 +44,14 @@ known BadIndex = (tt, refl)
 known ShortEntry = (tt, refl)
 known BadLength = (tt, refl)
 known BadVersion = (tt, refl)
-known Unreached = (tt, refl)
 
 pub number-listed : (f : Refusal) → List·Memᴰ (refusalNumber f) numbers
 number-listed f = of-member (refusalNumber f) numbers (known (f .reason) .0)
 
 pub one-reason : (a b : Reason) → reasonNumber a ≡ reasonNumber b → a ≡ b
-one-reason a b e = sym (known a .1) ∙ ap (λ (n : ℕ). getD reasons n None) e ∙ known b .1
+one-reason a b e = sym (known a .1) ∙ ap (reasonIn reasons) e ∙ known b .1
+
+-- 17 is unused for good (02's #111)
+pub unused : (reason : Reason) → reasonNumber reason ≡ 17 → ⊥
+unfolding numbers
+unused reason e = subst (λ (n : ℕ). T (member n numbers)) e (known reason .0)

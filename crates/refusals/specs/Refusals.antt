@@ -2,10 +2,9 @@
 use Prim.Native.Nat.{ℕ}
 use mathlib.Core.Bool.{Bool}
 use mathlib.Core.List.{List, [], _∷_}
-use mathlib.Core.Path.{_≡_}
 use lib.Dec.{eqb}
 use Rattle.refusals.specs.declared.Reason.{Reason}
-use Rattle.refusals.specs.declared.Reason.the-variants.{None, InvalidRes0, InvalidEc, InvalidFsc, InvalidSet, InvalidAet, InvalidAm, InvalidLd64bIss, Empty, InvalidDigit, PosOverflow, ShortBuffer, BadField, BadIndex, ShortEntry, BadLength, BadVersion, Unreached}
+use Rattle.refusals.specs.declared.Reason.the-variants.{None, InvalidRes0, InvalidEc, InvalidFsc, InvalidSet, InvalidAet, InvalidAm, InvalidLd64bIss, Empty, InvalidDigit, PosOverflow, ShortBuffer, BadField, BadIndex, ShortEntry, BadLength, BadVersion}
 use Rattle.refusals.specs.declared.Refusal.{Refusal}
 
 -- 0 where nothing is refused
@@ -27,11 +26,10 @@ reasonNumber BadIndex = 13
 reasonNumber ShortEntry = 14
 reasonNumber BadLength = 15
 reasonNumber BadVersion = 16
-reasonNumber Unreached = 17
 
--- the numbers of 01's table, and 0
+-- the numbers of 01's table, and 0. 17 is unused for good (02's #111)
 unfoldable pub numbers : List ℕ
-numbers = 0 ∷ 1 ∷ 2 ∷ 3 ∷ 4 ∷ 5 ∷ 6 ∷ 7 ∷ 8 ∷ 9 ∷ 10 ∷ 11 ∷ 12 ∷ 13 ∷ 14 ∷ 15 ∷ 16 ∷ 17 ∷ []
+numbers = 0 ∷ 1 ∷ 2 ∷ 3 ∷ 4 ∷ 5 ∷ 6 ∷ 7 ∷ 8 ∷ 9 ∷ 10 ∷ 11 ∷ 12 ∷ 13 ∷ 14 ∷ 15 ∷ 16 ∷ []
 
 abbrev pub refusalNumber : Refusal → ℕ
 refusalNumber f = reasonNumber (f .reason)
@@ -49,11 +47,3 @@ noRefusal = bare None
 -- nothing is refused
 abbrev pub passed : Refusal → Bool
 passed f = eqb (refusalNumber f) 0
-
--- The answers that a promise allows have 17 only when this is so of what comes in. `shown` is the number that an answer has.
-abbrev pub Answers17 : {In Out : Type 0} → (In → Out → Type 0) → (Out → ℕ) → (In → Type 0) → Type 0
-Answers17 {In} {Out} P shown when = (i : In) (r : Out) → P i r → shown r ≡ 17 → when i
-
--- whatever comes in
-abbrev pub never : {In : Type 0} → In → Type 0
-never i = ⊥

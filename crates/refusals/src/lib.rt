@@ -20,7 +20,6 @@ pub enum Reason {
     ShortEntry,
     BadLength,
     BadVersion,
-    Unreached,
 }
 
 impl Reason {
@@ -46,7 +45,6 @@ impl Reason {
             Reason::ShortEntry => 14,
             Reason::BadLength => 15,
             Reason::BadVersion => 16,
-            Reason::Unreached => 17,
         }
     }
 }

@@ -44,7 +44,7 @@ describesAll rule n = eqb (ruleAt rule .codes) n && from (describes rule) 0 n
 
 abbrev fits : Kind → ℕ → ℕ → Bool
 fits Free rule width = eqb rule 0 || describesAll rule (2 ^ width)
-fits (Coded reason) rule width = member (reasonNumber reason) (3 ∷ 4 ∷ 5 ∷ 6 ∷ 7 ∷ 17 ∷ []) && leb (ruleAt rule .codes) (2 ^ width)
+fits (Coded reason) rule width = member (reasonNumber reason) (3 ∷ 4 ∷ 5 ∷ 6 ∷ 7 ∷ []) && leb (ruleAt rule .codes) (2 ^ width)
 fits Checked rule width = eqb rule 0 || describesAll rule 1
 fits Unchecked rule width = eqb rule 0
 

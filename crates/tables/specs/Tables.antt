@@ -7,7 +7,7 @@ use Prim.Native.String.{String}
 use Rattle.texts.specs.Pool.{code}
 use Rattle.texts.specs.Rules.{Rule, plain, className, il, issRes0, cv, rv, ti, mcrRead, offsetSign, am, ldcRead, ld64bIss, iOrD, aOrB, tfv, idf, ixf, uff, off, dzf, iof, debugStatus, stepValid, ex, watchWnR, faultStatus, setType, fnv, pfv, isv, sas, sf, ar, wu, fnp, fnpNotValid, wnr, ids, aet, serrorStatus, els, vfv, iesb, wnrv, wnrNotValid}
 use Rattle.records.specs.Kinds.{Kind, Free, Unchecked, Checked, Coded, kindNumber}
-use Rattle.refusals.specs.declared.Reason.the-variants.{InvalidEc, InvalidFsc, InvalidSet, InvalidAet, InvalidAm, InvalidLd64bIss, Unreached}
+use Rattle.refusals.specs.declared.Reason.the-variants.{InvalidEc, InvalidFsc, InvalidSet, InvalidAet, InvalidAm, InvalidLd64bIss}
 use Rattle.records.specs.declared.Row.{Row}
 use Rattle.tables.specs.Shape.{Table, bits, unnamed, _when_, _unless_, _checking_, bit, _is_, status, external}
 
@@ -50,8 +50,8 @@ wf =
     bits  5 10 "RN" "Register Number" Free plain ∷
     bits  3  5 "RES0" "Reserved" Checked plain ∷
     bits  2  3 "RV" "Register Valid" Free rv ∷
-    bits  0  2 "TI" "Trapped Instruction" (Coded Unreached) ti ∷
-    [] checking 10 ∷ 3 ∷ 0 ∷ []
+    bits  0  2 "TI" "Trapped Instruction" Free ti ∷
+    [] checking 10 ∷ 3 ∷ []
 
 -- mcr (0x03, 0x05): 24; 20..24; 17..20; 14..17; 10..14; 5..10; 1..5; 0. The manual: ISS encoding for an exception from an MCR or MRC access
 unfoldable pub mcr : Table
@@ -203,11 +203,11 @@ instructionAbort =
 
 -- data abort (0x24, 0x25): 24; then if bit 24 is 1: 22..24; 21; 16..21; 15; 14. If 0: 21..24 zero; for an external status 18..21 zero and
 -- WU 16..18, else 16..21 zero; FnP 15; 14, zero unless external. Then 13; 11..13; 10; 9; 8; 7; 6; status. The zero checks go from high to
--- low, then status, then SET. WU refuses nothing. SAS is checked first where it is there (DECISIONS 3). The manual: ISS encoding for an exception from a Data Abort
+-- low, then status, then SET. WU refuses nothing. The manual: ISS encoding for an exception from a Data Abort
 unfoldable pub dataAbort : Table
 dataAbort =
     bits 24 25 "ISV" "Instruction Syndrome Valid" Free isv ∷
-    bits 22 24 "SAS" "Syndrome Access Size" (Coded Unreached) sas        when bit 24 is 1 ∷
+    bits 22 24 "SAS" "Syndrome Access Size" Free sas                     when bit 24 is 1 ∷
     bits 21 22 "SSE" "Syndrome Sign Extend" Free plain                   when bit 24 is 1 ∷
     bits 16 21 "SRT" "Syndrome Register Transfer" Free plain             when bit 24 is 1 ∷
     bits 15 16 "SF" "Sixty-Four" Free sf                                 when bit 24 is 1 ∷
@@ -230,7 +230,7 @@ dataAbort =
     bits  7  8 "S1PTW" "Stage-1 translation table walk" Free plain ∷
     bits  6  7 "WnR" "Write not Read" Free wnr ∷
     bits  0  6 "DFSC" "Data Fault Status Code" (Coded InvalidFsc) faultStatus ∷
-    [] checking 22 ∷ 21 ∷ 18 ∷ 16 ∷ 14 ∷ 0 ∷ 11 ∷ []
+    [] checking 21 ∷ 18 ∷ 16 ∷ 14 ∷ 0 ∷ 11 ∷ []
 
 -- SError (0x2F): 24; if 1, 0..24 free. If 0: status 0x00 or 0x11, then AET 10..13, then for 0x11: 19..24 zero; 18; 16..18; 15; 14; 13; AET;
 -- 9; 8 zero; 7; 6, zero if bit 7 is 0; status. For 0x00: 14..24 zero; 13 zero; AET; 9; 6..9 zero; status.

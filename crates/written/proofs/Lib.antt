@@ -2,4 +2,3 @@ pub mod Widths
 pub mod Answers
 pub mod Kept
 pub mod Decides
-pub mod Unreached

@@ -23,5 +23,4 @@ reason-of-spec =
     (λ c. arm 6 (c .before .args .kind) (omega arith))
     (λ c. arm 7 (c .before .args .kind) (omega arith))
     (λ c. arm 8 (c .before .args .kind) (omega arith))
-    (λ c. arm 9 (c .before .args .kind) (omega arith))
-    (λ c. no-reason (c .before .args .kind) (λ h. others-le 2 (c .before .args .kind) 8 h (c .match .rest))))
+    (λ c. no-reason (c .before .args .kind) (λ h. others-le 2 (c .before .args .kind) 7 h (c .match .rest))))
