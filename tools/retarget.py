@@ -1,8 +1,8 @@
 """The proved code for AArch64 and x86-64: the LLVM module that the toolchain makes of it, compiled a second time.
 
 The toolchain compiles for x86-64 alone. Its back end makes one LLVM module of the proved code and hands it to its clang, which knows AArch64 too. `keeping`
-has rt run a clang that first keeps the module; `retargeted` changes what names the processor in it, and nothing else; `compiled` has the same
-clang compile it. What is proved is the code before the back end, on either processor alike.
+has rt run a clang that first keeps the module; `retargeted` changes what names the processor in it, and nothing else; `gathered` makes one constant of the
+stores that build a long constant array; `compiled` has the same clang compile it. What is proved is the code before the back end, on either processor alike.
 
 Both processors are little-endian, with the same integers and alignments and pointers of 64 bits, so that whatever the back end worked out for one holds for the
 other. One thing differs: a struct of more than 16 bytes is returned through a pointer, which x86-64 has as the first argument and AArch64 in a register of its
@@ -241,6 +241,55 @@ def retargeted(text, triple, sizes):
     return "\n".join(lines) + "\n"
 
 
+# A constant array is built by a store for each element, in order: of the first to the array itself, of each other to an address made for it.
+ARRAY = re.compile(r"  (%r\d+) = alloca \[(\d+) x i8\], align \d+")
+STORE = re.compile(r"  store i(8|16|32|64) (-?\d+), ptr (%r\d+), align \d+")
+ADDRESS = re.compile(r"  (%r\d+) = getelementptr i8, ptr (%r\d+), i64 (\d+)")
+LEAST = 256  # bytes; a shorter array is as well off with its stores
+COPY = "declare void @llvm.memcpy.p0.p0.i64(ptr noalias writeonly captures(none), ptr noalias readonly captures(none), i64, i1 immarg)"
+
+
+def stored(lines, at, array):
+    """The bytes that the stores from a line on give an array from its start, one after another with nothing between, and the line after them."""
+    data, place = b"", array
+    while at < len(lines):
+        store = STORE.fullmatch(lines[at])
+        if not store or store.group(3) != place:
+            break
+        size = int(store.group(1)) // 8
+        data += (int(store.group(2)) % (1 << 8 * size)).to_bytes(size, "little")
+        at += 1
+        address = ADDRESS.fullmatch(lines[at]) if at < len(lines) else None
+        if not address or address.group(2) != array or int(address.group(3)) != len(data):
+            break
+        place = address.group(1)
+        at += 1
+    return data, at
+
+
+def gathered(text):
+    """The module with each long constant array as a constant, copied, where the stores of its elements were. Those are merged by the compiler for x86-64; for AArch64
+    without vector registers they would be some instructions for each eight bytes."""
+    lines, constants, at = [], [], 0
+    given = text.splitlines()
+    while at < len(given):
+        array = ARRAY.fullmatch(given[at])
+        lines.append(given[at])
+        at += 1
+        if array and int(array.group(2)) >= LEAST:
+            data, after = stored(given, at, array.group(1))
+            if len(data) == int(array.group(2)):
+                constants.append(data)
+                lines.append(f"  call void @llvm.memcpy.p0.p0.i64(ptr {array.group(1)}, ptr @constant.{len(constants)}, i64 {len(data)}, i1 false)")
+                at = after
+    for number, data in enumerate(constants, 1):
+        escaped = "".join(f"\\{byte:02X}" for byte in data)
+        lines.append(f'@constant.{number} = private unnamed_addr constant [{len(data)} x i8] c"{escaped}", align 8')
+    if constants and "declare void @llvm.memcpy.p0.p0.i64(" not in text:
+        lines.append(COPY)
+    return "\n".join(lines) + "\n"
+
+
 def named(text, name):
     """The module of a program whose main has a name of its own, so that several can be linked together."""
     lines = text.splitlines()
@@ -307,7 +356,7 @@ def archives():
     tools = toolchain()
     run("rt", "staticlib", "capi", cwd=TOP, env={**os.environ, **keeping("capi")})
     module = kept("capi")
-    text = retargeted(text_of(module, tools), "aarch64-unknown-none-elf", returned())
+    text = gathered(retargeted(text_of(module, tools), "aarch64-unknown-none-elf", returned()))
     for path in ARCHIVES.values():
         path.parent.mkdir(parents=True, exist_ok=True)
         path.unlink(missing_ok=True)
@@ -334,7 +383,7 @@ def object_of(name, machine, tools):
     module = kept(name)
     text = text_of(module, tools)
     if machine == "aarch64":
-        text = retargeted(text, "aarch64-unknown-linux-gnu", {})
+        text = gathered(retargeted(text, "aarch64-unknown-linux-gnu", {}))
     else:
         understood(text)
     return compiled(module, machine, named(text, name), LINUX[machine], tools)
