@@ -1,8 +1,8 @@
-// What document 01 decides of abort.rs, in 01's words: the abort statuses and the external ones among them, and the house texts. `build.py`
+// What document 01 decides of abort.rs, in 01's words, and 02's #102: the abort statuses and the external ones among them, and the house texts. `build.py`
 // puts each function in the place of the one of its name.
 
 fn is_external_abort_fsc(status: u64) -> bool {
-    status == 0x10 || (0x13..=0x17).contains(&status)
+    status == 0x10 || (0x12..=0x17).contains(&status)
 }
 
 fn describe_fsc(status: u64) -> Result<&'static str, DecodeError> {
@@ -25,6 +25,7 @@ fn describe_fsc(status: u64) -> Result<&'static str, DecodeError> {
         0x0F => "Permission fault, level 3",
         0x10 => "External abort",
         0x11 => "Tag check fault",
+        0x12 => "External abort on table walk, level -2",
         0x13 => "External abort on table walk, level -1",
         0x14 => "External abort on table walk, level 0",
         0x15 => "External abort on table walk, level 1",
@@ -37,6 +38,7 @@ fn describe_fsc(status: u64) -> Result<&'static str, DecodeError> {
         0x1E => "Parity or ECC error on table walk, level 2",
         0x1F => "Parity or ECC error on table walk, level 3",
         0x21 => "Alignment fault",
+        0x22 => "Granule protection fault on table walk, level -2",
         0x23 => "Granule protection fault on table walk, level -1",
         0x24 => "Granule protection fault on table walk, level 0",
         0x25 => "Granule protection fault on table walk, level 1",
@@ -44,7 +46,9 @@ fn describe_fsc(status: u64) -> Result<&'static str, DecodeError> {
         0x27 => "Granule protection fault on table walk, level 3",
         0x28 => "Granule protection fault",
         0x29 => "Address size fault, level -1",
+        0x2A => "Translation fault, level -2",
         0x2B => "Translation fault, level -1",
+        0x2C => "Address size fault, level -2",
         0x30 => "TLB conflict abort",
         0x31 => "Unsupported atomic hardware update",
         0x34 => "Lockdown",

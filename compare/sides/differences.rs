@@ -1,5 +1,6 @@
 //! The Rust as published beside the Rust as document 01 fills it in, on every ISS of every class: what differs, how often, and the
-//! smallest value that shows it. Prints two tables. It ends with status 1 where they differ in more than texts and refusals.
+//! smallest value that shows it. Prints two tables. It ends with status 1 where they differ in more than texts and refusals; a value that one of them
+//! accepts is a difference of refusals.
 
 #[allow(dead_code)]
 #[path = "../oracle/answers.rs"]
@@ -9,11 +10,14 @@ use answers::numbered;
 use std::collections::BTreeMap;
 use std::thread;
 
+const ACCEPTED: (u8, u64) = (0, 0);
+
 /// How often something differs, and the smallest value that shows it.
 #[derive(Default)]
 struct Found {
     texts: BTreeMap<(&'static str, String, String), (u64, u64)>,
-    refusals: BTreeMap<(u64, u8, u8), (u64, u64)>,
+    /// By class, status, and the number of each; 0 where a value is accepted.
+    refusals: BTreeMap<(u64, u64, u8, u8), (u64, u64)>,
 }
 
 fn note<K: Ord>(found: &mut BTreeMap<K, (u64, u64)>, key: K, count: u64, esr: u64) {
@@ -47,14 +51,13 @@ impl Found {
     fn compare(&mut self, esr: u64) {
         match (published::decode(esr), decoder::decode(esr)) {
             (Ok(theirs), Ok(ours)) => self.compare_fields(esr, &theirs, &ours),
-            (Err(theirs), Err(ours)) => {
-                let theirs = theirs_numbered(&theirs);
-                let ours = numbered(&ours);
+            (theirs, ours) => {
+                let theirs = theirs.map_or_else(|error| theirs_numbered(&error), |_| ACCEPTED);
+                let ours = ours.map_or_else(|error| numbered(&error), |_| ACCEPTED);
                 if theirs != ours {
-                    note(&mut self.refusals, (esr >> 26, theirs.0, ours.0), 1, esr);
+                    note(&mut self.refusals, (esr >> 26, esr & 63, theirs.0, ours.0), 1, esr);
                 }
             }
-            (theirs, ours) => panic!("{esr:#x} is accepted by one alone: {} {}", theirs.is_ok(), ours.is_ok()),
         }
     }
 }
@@ -92,8 +95,8 @@ fn main() {
     for ((name, theirs, ours), (count, esr)) in &found.texts {
         println!("| {name} | {theirs} | {ours} | {count} | {esr:#x} |");
     }
-    println!("\n| class | refused as published | refused by 01 | values | smallest |\n|---|---|---|---|---|");
-    for ((class, theirs, ours), (count, esr)) in &found.refusals {
-        println!("| {class:#x} | {theirs} | {ours} | {count} | {esr:#x} |");
+    println!("\n| class | status | refused as published | refused by 01 | values | smallest |\n|---|---|---|---|---|---|");
+    for ((class, status, theirs, ours), (count, esr)) in &found.refusals {
+        println!("| {class:#x} | {status:#x} | {theirs} | {ours} | {count} | {esr:#x} |");
     }
 }

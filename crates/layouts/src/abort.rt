@@ -9,12 +9,12 @@ use crate::Layout;
 use crate::rows;
 use texts::rules as r;
 
-// 01's external statuses: 0x10, 0x13 to 0x17. The Rust counts 0x12 too.
+// The external statuses: 01's 0x10 and 0x13 to 0x17, and 0x12 by #102, as the Rust has them.
 fn is_external_abort_fsc(status: u64) -> bool
     ensures { λ r. ⌜ r ≡ member status externals ⌝ }
 {
     match status {
-        0x10 | 0x13 | 0x14 | 0x15 | 0x16 | 0x17 => true,
+        0x10 | 0x12 | 0x13 | 0x14 | 0x15 | 0x16 | 0x17 => true,
         _ => false,
     }
 }

@@ -47,7 +47,7 @@ fn in_numbers(rule: u8) -> Descriptions
         rules::AM => Descriptions(0x5F, pool::AM_FIRST),
         rules::LD64B_ISS => Descriptions(0x7, pool::LD64B_ISS_FIRST),
         rules::DEBUG_STATUS => Descriptions(0x4_0000_0000, pool::DEBUG_STATUS_FIRST),
-        rules::FAULT_STATUS => Descriptions(0x33_0BFA_F9FB_FFFF, pool::FAULT_STATUS_FIRST),
+        rules::FAULT_STATUS => Descriptions(0x33_1FFE_F9FF_FFFF, pool::FAULT_STATUS_FIRST),
         rules::SET_TYPE => Descriptions(0xD, pool::SET_TYPE_FIRST),
         rules::SAS => Descriptions(0xF, pool::SAS_FIRST),
         rules::WU => Descriptions(0xF, pool::WU_FIRST),

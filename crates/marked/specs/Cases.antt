@@ -1,4 +1,4 @@
--- 01, "Marked cases, proved together as one table": what is asked of the answer to each value. Names and texts are strings.
+-- 01, "Marked cases, proved together as one table", and the cases of #102: what is asked of the answer to each value. Names and texts are strings.
 use Prim.Native.Nat.{ℕ, _≤_}
 use Prim.Native.String.{String}
 use mathlib.Core.List.{List, [], _∷_, _++_, List·Memᴰ}
@@ -52,6 +52,16 @@ cases =
     0xBC000051 gives refusal (carrying InvalidRes0 1) ∷
     0x1800000A gives refusal (carrying InvalidAm 5) ∷
     0x28000003 gives refusal (carrying InvalidLd64bIss 3) ∷
+    -- #102: 0x12 is external, so that PFV and WU are read; the four are on the list of aborts, and on no other
+    0x90004012 gives accepted (withText "PFV" "PFAR is valid" ∷ withText "DFSC" "External abort on table walk, level -2" ∷ []) ∷
+    0x90030012 gives accepted (ofValue "WU" 3 ∷ []) ∷
+    0x80004012 gives accepted (withText "PFV" "PFAR is valid" ∷ withText "IFSC" "External abort on table walk, level -2" ∷ []) ∷
+    0x9000002A gives accepted (withText "DFSC" "Translation fault, level -2" ∷ []) ∷
+    0x9000002C gives accepted (withText "DFSC" "Address size fault, level -2" ∷ []) ∷
+    0x90000022 gives accepted (withText "DFSC" "Granule protection fault on table walk, level -2" ∷ []) ∷
+    0xC2000022 gives accepted (withText "IFSC" "Debug exception" ∷ []) ∷
+    0xC200002A gives refusal (carrying InvalidFsc 0x2A) ∷
+    0xBC000012 gives refusal (carrying InvalidFsc 0x12) ∷
     []
 
 -- what a fact says of a record

@@ -70,9 +70,9 @@ isStatus s = record { start = 0; width = 6; among = s ∷ [] }
 abbrev pub status : ℕ → Condition
 status s = record { test = isStatus s; holds = true }
 
--- "External: 0x10, 0x13-17"
+-- 01: "External: 0x10, 0x13-17"; #102: "and 0x12 to the external set"
 abbrev pub externals : List ℕ
-externals = 0x10 ∷ 0x13 ∷ 0x14 ∷ 0x15 ∷ 0x16 ∷ 0x17 ∷ []
+externals = 0x10 ∷ 0x12 ∷ 0x13 ∷ 0x14 ∷ 0x15 ∷ 0x16 ∷ 0x17 ∷ []
 
 abbrev pub isExternal : Test
 isExternal = record { start = 0; width = 6; among = externals }

@@ -109,8 +109,8 @@ pub rules-sound : T (every soundRule 0 rules)
 unfolding rules
 rules-sound = tt
 
--- 01: 42 abort statuses, 35 classes
-pub counts : (length (faultStatus .texts) ≡ 42) × (length (className .texts) ≡ 35)
+-- 01 and #102: 46 abort statuses; 01: 35 classes
+pub counts : (length (faultStatus .texts) ≡ 46) × (length (className .texts) ≡ 35)
 counts = (refl, refl)
 
 -- a text is at most 255 bytes long, so that one byte can count it

@@ -275,7 +275,7 @@ debugStatus =
     0x22 means "Debug exception" ∷
     [])
 
--- the status of aborts: 01's list of 42, its words with the first letter large and ", level N" where there is a level
+-- the status of aborts: 01's list of 42 and 02's four of level -2 (#102), their words with the first letter large and ", level N" where there is a level
 abbrev pub faultStatus : Rule
 faultStatus =
     rule 38 64 (
@@ -297,6 +297,7 @@ faultStatus =
     0x0F means "Permission fault, level 3" ∷
     0x10 means "External abort" ∷
     0x11 means "Tag check fault" ∷
+    0x12 means "External abort on table walk, level -2" ∷
     0x13 means "External abort on table walk, level -1" ∷
     0x14 means "External abort on table walk, level 0" ∷
     0x15 means "External abort on table walk, level 1" ∷
@@ -309,6 +310,7 @@ faultStatus =
     0x1E means "Parity or ECC error on table walk, level 2" ∷
     0x1F means "Parity or ECC error on table walk, level 3" ∷
     0x21 means "Alignment fault" ∷
+    0x22 means "Granule protection fault on table walk, level -2" ∷
     0x23 means "Granule protection fault on table walk, level -1" ∷
     0x24 means "Granule protection fault on table walk, level 0" ∷
     0x25 means "Granule protection fault on table walk, level 1" ∷
@@ -316,7 +318,9 @@ faultStatus =
     0x27 means "Granule protection fault on table walk, level 3" ∷
     0x28 means "Granule protection fault" ∷
     0x29 means "Address size fault, level -1" ∷
+    0x2A means "Translation fault, level -2" ∷
     0x2B means "Translation fault, level -1" ∷
+    0x2C means "Address size fault, level -2" ∷
     0x30 means "TLB conflict abort" ∷
     0x31 means "Unsupported atomic hardware update" ∷
     0x34 means "Lockdown" ∷

@@ -1,4 +1,4 @@
--- The compiler asks for 0x10 and for the range 0x13 to 0x17: within it a computed test finds each on the list, outside it none is.
+-- The compiler asks for 0x10 and for the range 0x12 to 0x17: within it a computed test finds each on the list, outside it none is.
 use mathlib.Core.Path.{_≡_, sym, ap, subst}
 use mathlib.Core.Bool.{Bool, true, false}
 use Prim.Native.Nat.{ℕ, _+_, _-_, _≤_, _<_}
@@ -14,15 +14,16 @@ use Rattle.layouts.proofs.abort.is_external_abort_fsc.Tie as tie
 abbrev listed : ℕ → Bool
 listed x = member x externals
 
-inside : (x : ℕ) → 0x13 ≤ x → x < 0x18 → true ≡ listed x
+inside : (x : ℕ) → 0x12 ≤ x → x < 0x18 → true ≡ listed x
 inside x a b =
-    let e : 0x13 + (x - 0x13) ≡ x = omega arith in
-    sym (true-is (listed x) (subst (λ n. T (listed n)) e (from-at listed 0x13 5 (x - 0x13) tt (omega arith))))
+    let e : 0x12 + (x - 0x12) ≡ x = omega arith in
+    sym (true-is (listed x) (subst (λ n. T (listed n)) e (from-at listed 0x12 6 (x - 0x12) tt (omega arith))))
 
-outside : (x : ℕ) → (x ≡ 0x10 → ⊥) → (0x13 ≤ x → x < 0x18 → ⊥) → false ≡ listed x
+outside : (x : ℕ) → (x ≡ 0x10 → ⊥) → (0x12 ≤ x → x < 0x18 → ⊥) → false ≡ listed x
 outside x a h =
     simp (
       ne-eqb x 0x10 a,
+      ne-eqb x 0x12 (no 0x12 (omega arith) (omega arith)),
       ne-eqb x 0x13 (no 0x13 (omega arith) (omega arith)),
       ne-eqb x 0x14 (no 0x14 (omega arith) (omega arith)),
       ne-eqb x 0x15 (no 0x15 (omega arith) (omega arith)),
@@ -30,7 +31,7 @@ outside x a h =
       ne-eqb x 0x17 (no 0x17 (omega arith) (omega arith)),
     )
   where
-    no : (n : ℕ) → 0x13 ≤ n → n < 0x18 → x ≡ n → ⊥
+    no : (n : ℕ) → 0x12 ≤ n → n < 0x18 → x ≡ n → ⊥
     no n p q e = h (omega (arith, e)) (omega (arith, e))
 
 returns : tie.Need-returns
