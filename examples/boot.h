@@ -8,9 +8,9 @@
 /* What a unit needs of memory lies here, and is known when it is linked. */
 static uint8_t text[ESR_LISTING_MAX];
 
-/* The message of the refusal, where it has one. */
-static inline void say_refusal(uint8_t refusal, uint64_t carried) {
-    esr_filled message = esr_message(refusal, carried, text, sizeof text);
+/* The message of the refusal, where it has one; that of a reserved field names its bits. */
+static inline void say_refusal(uint8_t refusal, uint64_t carried, uint8_t start, uint8_t width) {
+    esr_filled message = esr_message(refusal, carried, start, width, text, sizeof text);
     say("refused ");
     say_number(refusal, 10);
     if (message.refusal == ESR_ACCEPTED) {
@@ -23,7 +23,7 @@ static inline void say_refusal(uint8_t refusal, uint64_t carried) {
 static inline void say_listing(uint64_t esr) {
     esr_filled listing = esr_listing(esr, text, sizeof text);
     if (listing.refusal != ESR_ACCEPTED) {
-        say_refusal(listing.refusal, listing.carried);
+        say_refusal(listing.refusal, listing.carried, listing.start, listing.width);
         return;
     }
     put(text, listing.count);
@@ -32,7 +32,7 @@ static inline void say_listing(uint64_t esr) {
 static inline void boot(const uint8_t *block, size_t length) {
     esr_entry entry = esr_read_entry(block, length);
     if (entry.refusal != ESR_ACCEPTED) {
-        say_refusal(entry.refusal, entry.carried);
+        say_refusal(entry.refusal, entry.carried, entry.start, entry.width);
         return;
     }
     say("sequence ");

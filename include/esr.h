@@ -17,7 +17,9 @@
 extern "C" {
 #endif
 
-/* Why an answer was refused: the member refusal of every answer. What it carries stands in the member carried, 0 where nothing is said. */
+/* Why an answer was refused: the member refusal of every answer. What it carries stands in the member carried, 0 where nothing is said. A refusal by
+   ESR_INVALID_RES0 names its field too: bits start .. start + width of the 64-bit value, the end not counted. The members start and width are 0 in every other
+   answer. */
 enum {
     ESR_ACCEPTED = 0,
     ESR_INVALID_RES0 = 1,      /* a checked reserved field isn't 0; that field's value, shifted down */
@@ -31,7 +33,7 @@ enum {
     ESR_INVALID_DIGIT = 9,     /* a number with a character that is not a digit */
     ESR_POS_OVERFLOW = 10,     /* a number past 2^64-1 */
     ESR_SHORT_BUFFER = 11,     /* what is to be written is longer than the array; the bytes or slots needed */
-    ESR_BAD_FIELD = 12,        /* width not 1..64, value not below 2^width, or a message asked for outside 1 to 7 */
+    ESR_BAD_FIELD = 12,        /* width not 1..64, value not below 2^width, a message asked for outside 1 to 7, or that of 1 for bits past 64 */
     ESR_BAD_INDEX = 13,        /* record index not below the record count; the count */
     ESR_SHORT_ENTRY = 14,      /* fewer bytes than an entry's length takes, or than it says */
     ESR_BAD_LENGTH = 15,       /* an entry's length is not 11 */
@@ -63,12 +65,16 @@ typedef struct esr_filled {
     uint64_t carried;
     size_t count;
     uint8_t refusal;
+    uint8_t start;
+    uint8_t width;
 } esr_filled;
 
 typedef struct esr_number {
     uint64_t value;
     uint64_t carried;
     uint8_t refusal;
+    uint8_t start;
+    uint8_t width;
 } esr_number;
 
 /* The body is block[body] to block[body + body_length - 1], those same bytes of the caller's block. */
@@ -79,10 +85,13 @@ typedef struct esr_entry {
     size_t body_length;
     uint16_t sequence;
     uint8_t refusal;
+    uint8_t start;
+    uint8_t width;
 } esr_entry;
 
 /* Decodes a value into the front of the caller's array: RES0, ISS2, EC, IL and ISS, then ISS's own records, from high bits to low.
-   First bits 37 to 63 must be 0, then the class is looked up, then its layout's checks in their order; the first failure answers, by 1 to 7. Then
+   First bits 37 to 63 must be 0, then the class is looked up, then its layout's checks in their order; the first failure answers, by 1 to 7, and where
+   that is a reserved field, start and width name it. Then
    an array that has fewer slots than there are records is refused by 11, which carries the slots needed. A refusal leaves the array as it
    was; accepted, the slots after the records stay as they were. */
 esr_filled esr_decode(uint64_t esr, esr_record *slots, size_t length);
@@ -97,7 +106,7 @@ esr_filled esr_text(uint16_t code, uint8_t *buffer, size_t length);
    other refusal comes before 11. A refusal leaves the buffer as it was. */
 
 /* The listing of a value: for each record its line, then "# " and its text if it has one, each ended by one line feed; ISS's own are indented
-   two spaces, text lines too. A value that esr_decode refuses is refused by the same number, carrying the same. */
+   two spaces, text lines too. A value that esr_decode refuses is refused by the same number, carrying and naming the same. */
 esr_filled esr_listing(uint64_t esr, uint8_t *buffer, size_t length);
 
 /* The line of one record of a value, RES0 at index 0 and ISS's own records from 5 on: name, ": " and the value; width 1 prints true or false,
@@ -112,8 +121,10 @@ esr_filled esr_value_string(uint64_t width, uint64_t value, uint8_t *buffer, siz
 /* A field's value as "0b" and width digits, for width 1 too. 12 as above. */
 esr_filled esr_value_binary_string(uint64_t width, uint64_t value, uint8_t *buffer, size_t length);
 
-/* The message of a refusal, by its number and what it carries, in unpadded hex. 12 for any number but 1 to 7. */
-esr_filled esr_message(uint64_t number, uint64_t carried, uint8_t *buffer, size_t length);
+/* The message of a refusal, by its number, what it carries, in unpadded hex, and for 1 the bits of its field: "Invalid ESR, res0 is 0x1, bits 16..25", the end
+   not counted. 12 for any number but 1 to 7; for 1, 12 where width is not 1 to 64, start + width is above 64 or carried not below 2^width. For 2 to 7
+   start and width do not matter. */
+esr_filled esr_message(uint64_t number, uint64_t carried, uint64_t start, uint64_t width, uint8_t *buffer, size_t length);
 
 /* Reads a number: an exact "0x" selects base 16 (letters of either case), else 10. Then one "+" may stand if a character follows. Characters
    go left to right: not a digit is 9; a digit that takes the result past 2^64-1 is 10; the first offender answers. No characters after any
@@ -132,9 +143,12 @@ ESR_HOLDS(record, sizeof(esr_record) == 16 && offsetof(esr_record, value) == 0);
 ESR_HOLDS(record_names, offsetof(esr_record, name) == 8 && offsetof(esr_record, long_name) == 10 && offsetof(esr_record, text) == 12);
 ESR_HOLDS(record_bits, offsetof(esr_record, start) == 14 && offsetof(esr_record, width) == 15);
 ESR_HOLDS(filled, sizeof(esr_filled) == 24 && offsetof(esr_filled, count) == 8 && offsetof(esr_filled, refusal) == 16);
+ESR_HOLDS(filled_bits, offsetof(esr_filled, start) == 17 && offsetof(esr_filled, width) == 18);
 ESR_HOLDS(number, sizeof(esr_number) == 24 && offsetof(esr_number, carried) == 8 && offsetof(esr_number, refusal) == 16);
+ESR_HOLDS(number_bits, offsetof(esr_number, start) == 17 && offsetof(esr_number, width) == 18);
 ESR_HOLDS(entry, sizeof(esr_entry) == 40 && offsetof(esr_entry, carried) == 8 && offsetof(esr_entry, body) == 16);
 ESR_HOLDS(entry_rest, offsetof(esr_entry, body_length) == 24 && offsetof(esr_entry, sequence) == 32 && offsetof(esr_entry, refusal) == 34);
+ESR_HOLDS(entry_bits, offsetof(esr_entry, start) == 35 && offsetof(esr_entry, width) == 36);
 #undef ESR_HOLDS
 #if defined(__BYTE_ORDER__) && __BYTE_ORDER__ != __ORDER_LITTLE_ENDIAN__
 #error "a slot holds name, long_name, text, start and width as one 64-bit word, whose bytes lie in this order on a little-endian machine alone"

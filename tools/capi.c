@@ -47,21 +47,41 @@ static int same(const uint8_t *a, const uint8_t *b, size_t length) {
     return 1;
 }
 
-static int answers(esr_filled filled, uint8_t refusal, uint64_t carried, size_t count) {
-    return filled.refusal == refusal && filled.carried == carried && filled.count == count;
+/* A refusal in numbers. */
+typedef struct {
+    uint64_t carried;
+    uint8_t refusal;
+    uint8_t start;
+    uint8_t width;
+} refused;
+
+static int is_refused(esr_filled filled, refused by) {
+    return filled.refusal == by.refusal && filled.carried == by.carried && filled.start == by.start && filled.width == by.width && filled.count == 0;
 }
 
-/* The values that 01 marks: the refusal with what it carries, or the count of records. */
+static int answers(esr_filled filled, uint8_t refusal, uint64_t carried, size_t count) {
+    return filled.refusal == refusal && filled.carried == carried && filled.start == 0 && filled.width == 0 && filled.count == count;
+}
+
+static refused bare(uint8_t refusal, uint64_t carried) {
+    return (refused){carried, refusal, 0, 0};
+}
+
+/* The values that 01 marks: the refusal with what it carries and names, or the count of records. */
 static const struct {
     uint64_t esr;
-    uint64_t carried;
     size_t count;
-    uint8_t refusal;
+    refused by;
 } values[] = {
-    {0x0, 0, 6, 0},         {0x56000001, 0, 7, 0},  {0x2000000000, 1, 0, 1}, {0xFC000000, 0x3F, 0, 2}, {0x20FC000000, 1, 0, 1},
-    {0x54010000, 1, 0, 1},  {0x90000810, 1, 0, 4},  {0x90000804, 0, 18, 0},  {0x90010010, 0, 19, 0},   {0xBC001000, 4, 0, 5},
-    {0xBC001002, 2, 0, 3},  {0xBDFFFFFF, 0, 7, 0},  {0xBC000051, 1, 0, 1},   {0x1800000A, 5, 0, 6},    {0x28000003, 3, 0, 7},
+    {0x0, 6, {0, 0, 0, 0}},           {0x56000001, 7, {0, 0, 0, 0}},    {0x2000000000, 0, {1, 1, 37, 27}}, {0xFC000000, 0, {0x3F, 2, 0, 0}},
+    {0x20FC000000, 0, {1, 1, 37, 27}}, {0x54010000, 0, {1, 1, 16, 9}},   {0x90000810, 0, {1, 4, 0, 0}},     {0x90000804, 18, {0, 0, 0, 0}},
+    {0x90010010, 19, {0, 0, 0, 0}},   {0xBC001000, 0, {4, 5, 0, 0}},    {0xBC001002, 0, {2, 3, 0, 0}},     {0xBDFFFFFF, 7, {0, 0, 0, 0}},
+    {0xBC000051, 0, {1, 1, 6, 1}},    {0x1800000A, 0, {5, 6, 0, 0}},    {0x28000003, 0, {3, 7, 0, 0}},
 };
+
+static int gives(esr_filled filled, size_t index) {
+    return values[index].by.refusal == ESR_ACCEPTED ? answers(filled, ESR_ACCEPTED, 0, values[index].count) : is_refused(filled, values[index].by);
+}
 
 static union {
     esr_record records[ROOM];
@@ -71,18 +91,18 @@ static union {
 static void check_lengths(size_t index) {
     uint64_t esr = values[index].esr;
     size_t count = values[index].count;
-    uint8_t refusal = values[index].refusal;
+    refused by = values[index].by;
     mark(whole.bytes, sizeof whole.bytes);
-    HOLDS(answers(esr_decode(esr, whole.records, ROOM), refusal, values[index].carried, count));
+    HOLDS(gives(esr_decode(esr, whole.records, ROOM), index));
     HOLDS(marked(whole.bytes, count * sizeof(esr_record), sizeof whole.bytes));
     for (size_t length = 0; length <= ROOM; length++) {
         mark(slots.bytes, sizeof slots.bytes);
         esr_filled filled = esr_decode(esr, slots.records, length);
-        if (refusal == ESR_ACCEPTED && length < count) {
+        if (by.refusal == ESR_ACCEPTED && length < count) {
             HOLDS(answers(filled, ESR_SHORT_BUFFER, count, 0));
             HOLDS(marked(slots.bytes, 0, sizeof slots.bytes));
         } else {
-            HOLDS(answers(filled, refusal, values[index].carried, count));
+            HOLDS(gives(filled, index));
             HOLDS(same(slots.bytes, whole.bytes, sizeof slots.bytes));
         }
     }
@@ -105,6 +125,13 @@ static esr_filled write_record_line(uint64_t esr, uint64_t index, uint8_t *buffe
     return esr_record_line(esr, (size_t)index, buffer, length);
 }
 
+/* The bits that a message is asked for. */
+static uint64_t message_start, message_width;
+
+static esr_filled write_message(uint64_t number, uint64_t carried, uint8_t *buffer, size_t length) {
+    return esr_message(number, carried, message_start, message_width, buffer, length);
+}
+
 static uint8_t text[BYTES];
 static uint8_t kept[BYTES];
 
@@ -113,11 +140,11 @@ static int says(writer write, uint64_t a, uint64_t b, const char *words) {
     return answers(write(a, b, text, BYTES), ESR_ACCEPTED, 0, length) && same(text, (const uint8_t *)words, length);
 }
 
-static int refuses_text(writer write, uint64_t a, uint64_t b, uint8_t refusal, uint64_t carried) {
+static int refuses_text(writer write, uint64_t a, uint64_t b, refused by) {
     int fact = 1;
     for (size_t length = 0; length <= BYTES; length += BYTES / 8) {
         mark(text, BYTES);
-        fact = fact && answers(write(a, b, text, length), refusal, carried, 0) && marked(text, 0, BYTES);
+        fact = fact && is_refused(write(a, b, text, length), by) && marked(text, 0, BYTES);
     }
     return fact;
 }
@@ -188,34 +215,51 @@ static void check_value_strings(void) {
     HOLDS(says(esr_value_binary_string, 5, 0xA, "0b01010"));
     static const writer both[] = {esr_value_string, esr_value_binary_string};
     for (size_t i = 0; i < 2; i++) {
-        HOLDS(refuses_text(both[i], 0, 0, ESR_BAD_FIELD, 0));
-        HOLDS(refuses_text(both[i], 65, 0, ESR_BAD_FIELD, 0));
-        HOLDS(refuses_text(both[i], 0x100000001, 1, ESR_BAD_FIELD, 0));
+        HOLDS(refuses_text(both[i], 0, 0, bare(ESR_BAD_FIELD, 0)));
+        HOLDS(refuses_text(both[i], 65, 0, bare(ESR_BAD_FIELD, 0)));
+        HOLDS(refuses_text(both[i], 0x100000001, 1, bare(ESR_BAD_FIELD, 0)));
         for (uint64_t width = 1; width <= 64; width++) {
             check_room(both[i], width, 0, BYTES);
             check_room(both[i], width, 0xFFFFFFFFFFFFFFFF >> (64 - width), BYTES);
             if (width < 64) {
-                HOLDS(refuses_text(both[i], width, (uint64_t)1 << width, ESR_BAD_FIELD, 0));
+                HOLDS(refuses_text(both[i], width, (uint64_t)1 << width, bare(ESR_BAD_FIELD, 0)));
             }
         }
     }
 }
 
+static int names(uint64_t carried, uint64_t start, uint64_t width, const char *words) {
+    message_start = start;
+    message_width = width;
+    return words ? says(write_message, 1, carried, words) : refuses_text(write_message, 1, carried, bare(ESR_BAD_FIELD, 0));
+}
+
 static void check_messages(void) {
-    HOLDS(says(esr_message, 1, 1, "Invalid ESR, res0 is 0x1"));
-    HOLDS(says(esr_message, 2, 0x3F, "Invalid EC 0x3f"));
-    HOLDS(says(esr_message, 3, 2, "Invalid DFSC or IFSC 0x2"));
-    HOLDS(says(esr_message, 4, 1, "Invalid SET 0x1"));
-    HOLDS(says(esr_message, 5, 4, "Invalid AET 0x4"));
-    HOLDS(says(esr_message, 6, 0, "Invalid AM 0x0"));
-    HOLDS(says(esr_message, 7, 0xFFFFFFFFFFFFFFFF, "Invalid ISS 0xffffffffffffffff for trapped LD64B or ST64B*"));
-    for (uint64_t number = 1; number <= 7; number++) {
-        check_room(esr_message, number, 0, BYTES);
-        check_room(esr_message, number, 0x0123456789ABCDEF, BYTES);
+    HOLDS(names(1, 16, 9, "Invalid ESR, res0 is 0x1, bits 16..25"));
+    HOLDS(names(0x7FFFFFF, 37, 27, "Invalid ESR, res0 is 0x7ffffff, bits 37..64"));
+    HOLDS(names(1, 6, 1, "Invalid ESR, res0 is 0x1, bits 6..7"));
+    HOLDS(names(0xFFFFFFFFFFFFFFFF, 0, 64, "Invalid ESR, res0 is 0xffffffffffffffff, bits 0..64"));
+    HOLDS(names(0, 0, 0, 0) && names(0, 0, 65, 0) && names(0, 1, 64, 0) && names(2, 6, 1, 0));
+    HOLDS(names(0, 64, 1, 0) && names(0, 0xFFFFFFFFFFFFFFFF, 1, 0) && names(0, 0x100, 8, 0) && names(0, 8, 0x108, 0));
+    /* 2 to 7 do not look at them, and 1 takes the largest field */
+    for (message_start = 0; message_start < 2; message_start++) {
+        message_width = message_start ? 0xFFFFFFFFFFFFFFFF : 64;
+        HOLDS(says(write_message, 2, 0x3F, "Invalid EC 0x3f"));
+        HOLDS(says(write_message, 3, 2, "Invalid DFSC or IFSC 0x2"));
+        HOLDS(says(write_message, 4, 1, "Invalid SET 0x1"));
+        HOLDS(says(write_message, 5, 4, "Invalid AET 0x4"));
+        HOLDS(says(write_message, 6, 0, "Invalid AM 0x0"));
+        HOLDS(says(write_message, 7, 0xFFFFFFFFFFFFFFFF, "Invalid ISS 0xffffffffffffffff for trapped LD64B or ST64B*"));
+        for (uint64_t number = 1 + message_start; number <= 7; number++) {
+            check_room(write_message, number, 0, BYTES);
+            check_room(write_message, number, 0x0123456789ABCDEF, BYTES);
+        }
+        HOLDS(refuses_text(write_message, 0, 0, bare(ESR_BAD_FIELD, 0)));
+        HOLDS(refuses_text(write_message, 8, 0, bare(ESR_BAD_FIELD, 0)));
+        HOLDS(refuses_text(write_message, 0x100000001, 1, bare(ESR_BAD_FIELD, 0)));
     }
-    HOLDS(refuses_text(esr_message, 0, 0, ESR_BAD_FIELD, 0));
-    HOLDS(refuses_text(esr_message, 8, 0, ESR_BAD_FIELD, 0));
-    HOLDS(refuses_text(esr_message, 0x100000001, 1, ESR_BAD_FIELD, 0));
+    message_start = 0;
+    message_width = 64;
 }
 
 /* The value that 01 lists in full, a line to a record and its text's line after it. */
@@ -254,23 +298,24 @@ static void check_listed(void) {
 static void check_listings(size_t index) {
     uint64_t esr = values[index].esr;
     size_t count = values[index].count;
-    if (values[index].refusal != ESR_ACCEPTED) {
-        HOLDS(refuses_text(write_listing, esr, 0, values[index].refusal, values[index].carried));
-        HOLDS(refuses_text(write_record_line, esr, 0, values[index].refusal, values[index].carried));
-        HOLDS(refuses_text(write_record_line, esr, ESR_RECORDS_MAX, values[index].refusal, values[index].carried));
+    refused by = values[index].by;
+    if (by.refusal != ESR_ACCEPTED) {
+        HOLDS(refuses_text(write_listing, esr, 0, by));
+        HOLDS(refuses_text(write_record_line, esr, 0, by));
+        HOLDS(refuses_text(write_record_line, esr, ESR_RECORDS_MAX, by));
         return;
     }
     HOLDS(check_room(write_listing, esr, 0, BYTES) <= ESR_LISTING_MAX);
     for (size_t i = 0; i < count; i++) {
         check_room(write_record_line, esr, i, BYTES);
     }
-    HOLDS(refuses_text(write_record_line, esr, count, ESR_BAD_INDEX, count));
-    HOLDS(refuses_text(write_record_line, esr, 0x100000000, ESR_BAD_INDEX, count));
+    HOLDS(refuses_text(write_record_line, esr, count, bare(ESR_BAD_INDEX, count)));
+    HOLDS(refuses_text(write_record_line, esr, 0x100000000, bare(ESR_BAD_INDEX, count)));
 }
 
 static int reads(const char *words, uint8_t refusal, uint64_t value) {
     esr_number number = esr_parse_number((const uint8_t *)words, length_of(words));
-    return number.refusal == refusal && number.carried == 0 && number.value == value;
+    return number.refusal == refusal && number.carried == 0 && number.start == 0 && number.width == 0 && number.value == value;
 }
 
 static void check_numbers(void) {
@@ -288,7 +333,8 @@ static uint8_t block[] = {0x00, 0x0B, 0x01, 0x12, 0x34, 0x01, 0x23, 0x45, 0x67, 
 
 static int refuses(size_t length, uint8_t refusal) {
     esr_entry entry = esr_read_entry(block, length);
-    return entry.refusal == refusal && entry.carried == 0 && entry.esr == 0 && entry.sequence == 0 && entry.body == 0 && entry.body_length == 0;
+    return entry.refusal == refusal && entry.carried == 0 && entry.start == 0 && entry.width == 0 && entry.esr == 0 && entry.sequence == 0 && entry.body == 0 &&
+           entry.body_length == 0;
 }
 
 static int refuses_with(size_t slot, uint8_t byte, uint8_t refusal) {
@@ -302,7 +348,7 @@ static int refuses_with(size_t slot, uint8_t byte, uint8_t refusal) {
 static void check_entries(void) {
     for (size_t length = 13; length <= sizeof block; length++) {
         esr_entry entry = esr_read_entry(block, length);
-        HOLDS(entry.refusal == ESR_ACCEPTED && entry.carried == 0);
+        HOLDS(entry.refusal == ESR_ACCEPTED && entry.carried == 0 && entry.start == 0 && entry.width == 0);
         HOLDS(entry.esr == 0x0123456789ABCDEF && entry.sequence == 0x1234);
         HOLDS(entry.body == 2 && entry.body_length == 11);
     }
@@ -421,7 +467,7 @@ int main(void) {
     measure_writer("esr_record_line", write_record_line, syndrome, 64 * marked_values);
     measure_writer("esr_value_string", esr_value_string, counted, 66);
     measure_writer("esr_value_binary_string", esr_value_binary_string, counted, 66);
-    measure_writer("esr_message", esr_message, counted, 9);
+    measure_writer("esr_message", write_message, counted, 9);
     measure("esr_parse_number", call_parse_number, counted, 19);
     measure("esr_read_entry", call_read_entry, counted, sizeof block + 1);
     return 0;

@@ -33,13 +33,19 @@ static void say_record(const esr_record *record, size_t index) {
     say("\n");
 }
 
-static void say_refusal(uint8_t refusal, uint64_t carried) {
+static void say_refusal(esr_filled answer) {
     say("refused ");
-    say_number(refusal, 10);
+    say_number(answer.refusal, 10);
     say(" carried=0x");
-    say_number(carried, 16);
+    say_number(answer.carried, 16);
+    if (answer.refusal == ESR_INVALID_RES0) {
+        say(" start=");
+        say_number(answer.start, 10);
+        say(" width=");
+        say_number(answer.width, 10);
+    }
     say(" ");
-    put(text, esr_message(refusal, carried, text, sizeof text).count);
+    put(text, esr_message(answer.refusal, answer.carried, answer.start, answer.width, text, sizeof text).count);
     say("\n");
 }
 
@@ -50,7 +56,7 @@ static void say_block(uint64_t esr) {
     say_number(esr, 16);
     say("\n");
     if (answer.refusal != ESR_ACCEPTED) {
-        say_refusal(answer.refusal, answer.carried);
+        say_refusal(answer);
     }
     for (size_t i = 0; i < answer.count; i++) {
         say_record(&records[i], i);

@@ -20,6 +20,8 @@ pub struct Filled {
     pub carried: u64,
     pub count: usize,
     pub refusal: u8,
+    pub start: u8,
+    pub width: u8,
 }
 
 #[repr(C)]
@@ -27,6 +29,8 @@ pub struct Number {
     pub value: u64,
     pub carried: u64,
     pub refusal: u8,
+    pub start: u8,
+    pub width: u8,
 }
 
 extern "C" {

@@ -16,7 +16,7 @@ pub esr-value-binary-string-decides : Decides BinaryFilled
 esr-value-binary-string-decides (width, value, before) a b = same
 
 pub esr-message-decides : Decides MessageFilled
-esr-message-decides (number, carried, before) a b = same
+esr-message-decides (number, carried, start, width, before) a b = same
 
 pub esr-record-line-decides : Decides LineFilled
 esr-record-line-decides (esr, index, before) a b = same

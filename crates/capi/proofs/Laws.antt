@@ -16,6 +16,7 @@ use Rattle.records.specs.Sets.{setRoom, noRecord}
 use Rattle.records.specs.declared.Records.{Records}
 use Rattle.refusals.specs.Refusals.{carrying, noRefusal, refusalNumber}
 use Rattle.refusals.specs.declared.Reason.the-variants.{ShortBuffer}
+use Rattle.refusals.specs.declared.Refusal.{Refusal}
 use Rattle.capi.specs.Answers.{filledOf}
 use Rattle.capi.specs.Buffers.{front, filling, filledWith}
 use Rattle.capi.specs.Words.{wordsOf, allWords, decoding}
@@ -44,10 +45,10 @@ module _ {A : Type 0} (content before : List A) (fits : length content ≤ lengt
 
 -- what is answered with it
 module _ {A : Type 0} (content before : List A) {count : ℕ} (is : count ≡ length content) {r : Filled} where
-  pub filled-short : length before < count → r ≡ filledOf (carrying ShortBuffer count) 0 → (r, before) ≡ filling content before
+  pub filled-short : {f : Refusal} → length before < count → f ≡ carrying ShortBuffer count → r ≡ filledOf f 0 → (r, before) ≡ filling content before
   unfolding filling
-  filled-short h e =
-      ap (λ (x : Filled). (x, before)) (e ∙ ap (λ (n : ℕ). filledOf (carrying ShortBuffer n) 0) is)
+  filled-short {f} h g e =
+      ap (λ (x : Filled). (x, before)) (e ∙ ap (λ (x : Refusal). filledOf x 0) (g ∙ ap (carrying ShortBuffer) is))
       ∙ simp (lt-leb (length content) (length before) (omega arith))
 
   pub filled-whole : {after : List A} → count ≤ length before → r ≡ filledOf noRefusal count → after ≡ front content before

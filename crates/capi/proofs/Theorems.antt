@@ -81,7 +81,7 @@ module _ (x : Record) (name : x .name < 2 ^ 16) (long : x .long < 2 ^ 16) (text 
 
 -- The body: that many bytes of the block, from there on.
 
-pub body-there : (s : List ℕ) → take (entryAnswer s .length) (drop (entryAnswer s .start) s) ≡ bodyOf s
+pub body-there : (s : List ℕ) → take (entryAnswer s .length) (drop (entryAnswer s .body) s) ≡ bodyOf s
 unfolding entryAnswer
 body-there s = by (sound s) refl
   where

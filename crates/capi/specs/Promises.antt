@@ -29,8 +29,8 @@ abbrev pub BinaryFilled : ℕ × ℕ × List ℕ → Filled × List ℕ → Type
 BinaryFilled (width, value, before) r = r ≡ filledWith (binaryString width value) before
 
 -- a refusal's message
-abbrev pub MessageFilled : ℕ × ℕ × List ℕ → Filled × List ℕ → Type 0
-MessageFilled (number, carried, before) r = r ≡ filledWith (messageOf number carried) before
+abbrev pub MessageFilled : ℕ × ℕ × ℕ × ℕ × List ℕ → Filled × List ℕ → Type 0
+MessageFilled (number, carried, start, width, before) r = r ≡ filledWith (messageOf number carried start width) before
 
 -- the line of one record of a value, and the listing of all
 abbrev pub LineFilled : ℕ × ℕ × List ℕ → Filled × List ℕ → Type 0

@@ -1,4 +1,5 @@
-// The C functions: each calls a function of the crates below and tells its answer in numbers, a refusal as its number and what it carries.
+// The C functions: each calls a function of the crates below and tells its answer in numbers, a refusal as its number, what it carries, and the start
+// and width of the field that it names.
 // `include/esr.h` declares them.
 ghost use Prim.Native.Nat.{_≤_};
 ghost use Rattle.capi.specs.Answers.{filledOf};
@@ -23,6 +24,8 @@ pub struct Filled {
     pub carried: u64,
     pub count: usize,
     pub refusal: u8,
+    pub start: u8,
+    pub width: u8,
 }
 
 #[repr(C)]
@@ -30,6 +33,8 @@ pub struct NumberAnswer {
     pub value: u64,
     pub carried: u64,
     pub refusal: u8,
+    pub start: u8,
+    pub width: u8,
 }
 
 // The body is given by its offset in the caller's own block: where it starts, and how many bytes it has.
@@ -37,10 +42,12 @@ pub struct NumberAnswer {
 pub struct EntryAnswer {
     pub esr: u64,
     pub carried: u64,
-    pub start: usize,
+    pub body: usize,
     pub length: usize,
     pub sequence: u16,
     pub refusal: u8,
+    pub start: u8,
+    pub width: u8,
 }
 
 // The bytes of an entry's length, which stand before its body.
@@ -53,6 +60,8 @@ fn filled_of(refusal: Refusal, count: usize) -> Filled
         carried: refusal.carries,
         count,
         refusal: refusal.number(),
+        start: refusal.start,
+        width: refusal.width,
     }
 }
 
@@ -99,13 +108,7 @@ pub extern "C" fn esr_decode(esr: u64, slots: &mut [[u64; 2]]) -> Filled
     }
     let count = answer.records.count;
     if slots.len() < count {
-        return filled_of(
-            Refusal {
-                carries: count as u64,
-                reason: Reason::ShortBuffer,
-            },
-            0,
-        );
+        return filled_of(Refusal::carrying(Reason::ShortBuffer, count as u64), 0);
     }
     put_records(answer.records, slots);
     filled_of(Refusal::NONE, count)
@@ -126,13 +129,7 @@ pub extern "C" fn esr_text(code: u16, buf: &mut [u8]) -> Filled
 {
     let length = lookup::length_of(code) as usize;
     if buf.len() < length {
-        return filled_of(
-            Refusal {
-                carries: length as u64,
-                reason: Reason::ShortBuffer,
-            },
-            0,
-        );
+        return filled_of(Refusal::carrying(Reason::ShortBuffer, length as u64), 0);
     }
     write_text(code, buf);
     filled_of(Refusal::NONE, length)
@@ -153,10 +150,16 @@ pub extern "C" fn esr_value_binary_string(width: u64, value: u64, buf: &mut [u8]
 }
 
 #[no_mangle]
-pub extern "C" fn esr_message(number: u64, carried: u64, buf: &mut [u8]) -> Filled
-    ensures { λ r. ⌜ MessageFilled (number, carried, now (buf .entry)) (r, now (buf .exit)) ⌝ }
+pub extern "C" fn esr_message(
+    number: u64,
+    carried: u64,
+    start: u64,
+    width: u64,
+    buf: &mut [u8],
+) -> Filled
+    ensures { λ r. ⌜ MessageFilled (number, carried, start, width, now (buf .entry)) (r, now (buf .exit)) ⌝ }
 {
-    filled_by_text(written::message(number, carried, buf))
+    filled_by_text(written::message(number, carried, start, width, buf))
 }
 
 #[no_mangle]
@@ -183,6 +186,8 @@ pub extern "C" fn esr_parse_number(s: &[u8]) -> NumberAnswer
         value: number.value,
         carried: refusal.carries,
         refusal: refusal.number(),
+        start: refusal.start,
+        width: refusal.width,
     }
 }
 
@@ -206,9 +211,11 @@ pub extern "C" fn esr_read_entry(block: &[u8]) -> EntryAnswer
     EntryAnswer {
         esr: numbers.esr,
         carried: refusal.carries,
-        start: body_start(refusal),
+        body: body_start(refusal),
         length: body.len(),
         sequence: numbers.sequence,
         refusal: refusal.number(),
+        start: refusal.start,
+        width: refusal.width,
     }
 }

@@ -64,7 +64,7 @@ pub fn read_entry(block: &[u8]) -> Entry
     if reason.number() != 0 {
         return Entry {
             esr: 0,
-            refusal: Refusal { carries: 0, reason },
+            refusal: Refusal::carrying(reason, 0),
             sequence: 0,
         };
     }

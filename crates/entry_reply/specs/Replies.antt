@@ -6,7 +6,7 @@ use Rattle.entry.specs.Entries.{entryOf, bodyOf}
 use Rattle.listing_reply.specs.Replies.{listed}
 use Rattle.record_lines.specs.Lines.{bodyLine}
 use Rattle.refusals.specs.Refusals.{passed}
-use Rattle.reply_lines.specs.Lines.{numberLine, refusal}
+use Rattle.reply_lines.specs.Lines.{numberLine, refusalLine}
 use Rattle.texts.specs.Pool.{bytes}
 
 -- sequence, ESR, body and the listing of the ESR
@@ -19,4 +19,4 @@ unfoldable pub entryReply : List ℕ → List ℕ
 entryReply block =
     cond (passed (entryOf block .refusal))
     (entryText (entryOf block .sequence) (entryOf block .esr) (bodyOf block))
-    (refusal (entryOf block .refusal))
+    (refusalLine (entryOf block .refusal))

@@ -23,9 +23,8 @@ pub fn put_entry_reply(buf: &mut [u8], at: usize, block: &[u8]) -> usize
 {
     let entry = entry::read_entry(block);
     let refusal = entry.refusal;
-    let reason = refusal.number();
-    if reason != 0 {
-        return put_refusal(buf, at, reason, refusal.carries);
+    if refusal.number() != 0 {
+        return put_refusal(buf, at, refusal);
     }
     put_sound(buf, at, entry.sequence, entry.esr, entry::entry_body(block))
 }

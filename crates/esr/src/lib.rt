@@ -226,10 +226,7 @@ pub fn decode(esr: u64) -> Answer
     let class = records::field(esr, 26, 6);
     let number = layout_number(class as usize);
     if number == EMPTY {
-        return refuse(Refusal {
-            carries: class,
-            reason: Reason::InvalidEc,
-        });
+        return refuse(Refusal::carrying(Reason::InvalidEc, class));
     }
     read(esr, number)
 }

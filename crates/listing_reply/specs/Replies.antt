@@ -8,7 +8,7 @@ use Rattle.esr.specs.Decode.{answerOf}
 use Rattle.number.specs.declared.Number.{Number}
 use Rattle.records.specs.Sets.{listOf}
 use Rattle.refusals.specs.Refusals.{passed}
-use Rattle.reply_lines.specs.Lines.{numberLine, refusal}
+use Rattle.reply_lines.specs.Lines.{numberLine, refusalLine}
 use Rattle.texts.specs.Pool.{bytes, bytesAt}
 
 -- the listing of a value, or its refusal in words
@@ -16,7 +16,7 @@ unfoldable pub listed : ℕ → List ℕ
 listed esr =
     cond (passed (answerOf esr .refusal))
     (listing bytesAt (listOf (answerOf esr .records)))
-    (refusal (answerOf esr .refusal))
+    (refusalLine (answerOf esr .refusal))
 
 -- The line before it names the value, or where the line holds no number, the line by its number among the lines. The only line has no name; its
 -- number is 0.
@@ -25,4 +25,4 @@ nameLine line n =
     cond (eqb line 0) [] (cond (passed (n .refusal)) (numberLine (bytes "> 0x") 16 (n .value)) (numberLine (bytes "> line ") 10 line))
 
 unfoldable pub listingReply : ℕ → Number → List ℕ
-listingReply line n = nameLine line n ++ cond (passed (n .refusal)) (listed (n .value)) (refusal (n .refusal))
+listingReply line n = nameLine line n ++ cond (passed (n .refusal)) (listed (n .value)) (refusalLine (n .refusal))

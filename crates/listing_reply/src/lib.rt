@@ -15,9 +15,8 @@ pub fn put_listed(buf: &mut [u8], at: usize, esr: u64) -> usize
 {
     let answer = esr::decode(esr);
     let refusal = answer.refusal;
-    let reason = refusal.number();
-    if reason != 0 {
-        return put_refusal(buf, at, reason, refusal.carries);
+    if refusal.number() != 0 {
+        return put_refusal(buf, at, refusal);
     }
     let pool = texts::pool_bytes();
     let starts = texts::text_starts();
@@ -44,9 +43,8 @@ pub fn put_listing_reply(buf: &mut [u8], at: usize, line: u64, number: Number) -
 {
     let next = put_name(buf, at, line, number);
     let refusal = number.refusal;
-    let reason = refusal.number();
-    if reason != 0 {
-        return put_refusal(buf, next, reason, refusal.carries);
+    if refusal.number() != 0 {
+        return put_refusal(buf, next, refusal);
     }
     put_listed(buf, next, number.value)
 }

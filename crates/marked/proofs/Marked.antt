@@ -1,7 +1,7 @@
 -- The marked cases hold: one test over the whole table, which antt computes, and one law that turns it into what each case says.
 use mathlib.Core.Bool.{Bool, true, false, _&&_, _||_}
 use mathlib.Core.List.{List, [], _∷_, List·Memᴰ, List·Memᴰ·head, List·Memᴰ·tail}
-use mathlib.Core.Path.{_≡_, refl, sym, ap, ap₂, _∙_, subst}
+use mathlib.Core.Path.{_≡_, refl, sym, ap, _∙_, subst}
 use lib.Dec.{T, eqb, eqb→eq}
 use lib.ListN.{length}
 use borrow.Author.Tests.{le-leb}
@@ -10,9 +10,9 @@ use Rattle.promise.proofs.Tests.{both-left, both-right}
 use Rattle.texts.specs.Names.{names}
 use Rattle.texts.specs.Pool.{textIn, onList, ruleAt, describes, byValue, described, codesOf, texts, textAt, bytesAt, indexIn, code, firstOf, textCode, bytes}
 use Rattle.texts.specs.Rules.{rules}
-use Rattle.refusals.specs.Refusals.{refusalNumber, carrying, noRefusal}
+use Rattle.refusals.specs.Refusals.{refusalNumber, noRefusal}
 use Rattle.refusals.specs.declared.Refusal.{Refusal}
-use Rattle.refusals.proofs.Theorems.{one-reason}
+use Rattle.refusals.proofs.Theorems.{one-reason, by-parts}
 use Rattle.records.specs.Bits.{fieldOf}
 use Rattle.records.specs.Kinds.{kindOf}
 use Rattle.records.specs.Rows.{recordOf, meets, refusalOf}
@@ -52,7 +52,7 @@ isEmpty [] = true
 isEmpty (x ∷ xs) = false
 
 abbrev same : Refusal → Refusal → Bool
-same f g = eqb (refusalNumber f) (refusalNumber g) && eqb (f .carries) (g .carries)
+same f g = eqb (refusalNumber f) (refusalNumber g) && (eqb (f .carries) (g .carries) && (eqb (f .start) (g .start) && eqb (f .width) (g .width)))
 
 abbrev met : Expected → Answer → Bool
 met (refusal f) r = same (r .refusal) f && isEmpty (listOf (r .records))
@@ -99,8 +99,12 @@ all-so (f ∷ fs) l t =
 
 same-is : (f g : Refusal) → T (same f g) → f ≡ g
 same-is f g t =
-    ap₂ carrying (one-reason (f .reason) (g .reason) (eqb→eq (refusalNumber f) (refusalNumber g) (both-left (eqb (refusalNumber f) (refusalNumber g)) _ t)))
-    (eqb→eq (f .carries) (g .carries) (both-right (eqb (refusalNumber f) (refusalNumber g)) _ t))
+    let u : _ = both-right (eqb (refusalNumber f) (refusalNumber g)) _ t in
+    let w : _ = both-right (eqb (f .carries) (g .carries)) _ u in
+    by-parts f g (eqb→eq (f .carries) (g .carries) (both-left (eqb (f .carries) (g .carries)) _ u))
+    (eqb→eq (f .start) (g .start) (both-left (eqb (f .start) (g .start)) _ w))
+    (eqb→eq (f .width) (g .width) (both-right (eqb (f .start) (g .start)) _ w))
+    (one-reason (f .reason) (g .reason) (eqb→eq (refusalNumber f) (refusalNumber g) (both-left (eqb (refusalNumber f) (refusalNumber g)) _ t)))
 
 met-so : (e : Expected) (r : Answer) → T (met e r) → Met e r
 met-so (refusal f) r t =

@@ -1,12 +1,13 @@
--- 01, "Marked cases, proved together as one table", and the cases of #102: what is asked of the answer to each value. Names and texts are strings.
+-- 01, "Marked cases, proved together as one table", and the cases of #102: what is asked of the answer to each value. Names and texts are strings; refusal
+-- 1 names its bits (#105).
 use Prim.Native.Nat.{ℕ, _≤_}
 use Prim.Native.String.{String}
 use mathlib.Core.List.{List, [], _∷_, _++_, List·Memᴰ}
 use mathlib.Core.Path.{_≡_}
 use lib.ListN.{length, drop}
 use Rattle.texts.specs.Pool.{bytes, textAt}
-use Rattle.refusals.specs.Refusals.{carrying, noRefusal}
-use Rattle.refusals.specs.declared.Reason.the-variants.{InvalidRes0, InvalidEc, InvalidFsc, InvalidSet, InvalidAet, InvalidAm, InvalidLd64bIss}
+use Rattle.refusals.specs.Refusals.{reservedBits, carrying, noRefusal}
+use Rattle.refusals.specs.declared.Reason.the-variants.{InvalidEc, InvalidFsc, InvalidSet, InvalidAet, InvalidAm, InvalidLd64bIss}
 use Rattle.refusals.specs.declared.Refusal.{Refusal}
 use Rattle.records.specs.Sets.{listOf}
 use Rattle.records.specs.declared.Record.{Record}
@@ -39,17 +40,17 @@ unfoldable pub cases : List Case
 cases =
     0x0 gives accepted [] ∷
     0x56000001 gives accepted [] ∷
-    0x2000000000 gives refusal (carrying InvalidRes0 1) ∷
+    0x2000000000 gives refusal (reservedBits 37 27 1) ∷
     0xFC000000 gives refusal (carrying InvalidEc 0x3F) ∷
-    0x20FC000000 gives refusal (carrying InvalidRes0 1) ∷
-    0x54010000 gives refusal (carrying InvalidRes0 1) ∷
+    0x20FC000000 gives refusal (reservedBits 37 27 1) ∷
+    0x54010000 gives refusal (reservedBits 16 9 1) ∷
     0x90000810 gives refusal (carrying InvalidSet 1) ∷
     0x90000804 gives accepted (ofValue "RES0" 1 ∷ []) ∷
     0x90010010 gives accepted (withText "WU" "Reserved" ∷ []) ∷
     0xBC001000 gives refusal (carrying InvalidAet 4) ∷
     0xBC001002 gives refusal (carrying InvalidFsc 2) ∷
     0xBDFFFFFF gives accepted [] ∷
-    0xBC000051 gives refusal (carrying InvalidRes0 1) ∷
+    0xBC000051 gives refusal (reservedBits 6 1 1) ∷
     0x1800000A gives refusal (carrying InvalidAm 5) ∷
     0x28000003 gives refusal (carrying InvalidLd64bIss 3) ∷
     -- #102: 0x12 is external, so that PFV and WU are read; the four are on the list of aborts, and on no other

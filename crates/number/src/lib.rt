@@ -237,7 +237,7 @@ impl NumberState {
         let reason = end_reason(stage, before);
         Number {
             value: self.value,
-            refusal: Refusal { carries: 0, reason },
+            refusal: Refusal::carrying(reason, 0),
         }
     }
 }

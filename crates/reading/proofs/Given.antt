@@ -21,13 +21,14 @@ use Rattle.records.specs.Bits.{fieldOf}
 use Rattle.records.specs.Rows.{rowKind}
 use Rattle.records.specs.Kinds.{Kind, Free, Unchecked, Checked, Coded, reasonOf, kindOf}
 use Rattle.records.specs.declared.Row.{Row}
+use Rattle.records.proofs.MetByKind.{not-res0}
 use Rattle.tables.specs.Shape.{Test, Condition, Line, Table}
 use Rattle.tables.specs.Applying.{isCheck}
 use Rattle.tables.specs.Tables.{reserved, class, Served, layouts, res0, wf, mcr, mcrr, ldc, sve, ld64b, bti, pauth, hvc, brk, fp, breakpoint, softwareStep, watchpoint, instructionAbort, dataAbort, serror, undivided}
 use Rattle.esr.specs.Promises.{Decoded}
 use Rattle.esr.specs.declared.Answer.{Answer}
 use Rattle.reading.specs.Reading.{HasBits, Holding, Fulfils, Meets, Applying, none, there, away, Listed, Allowed, Classed}
-use Rattle.reading.specs.Refusing.{Met, Unmet, notZero, notListed, CheckAt, Ordered, none, check, away, Checks, unserved, served, First, here, later, Refusing}
+use Rattle.reading.specs.Refusing.{Names, Met, Unmet, notZero, notListed, CheckAt, Ordered, none, check, away, Checks, unserved, served, First, here, later, Refusing}
 use Rattle.reading.specs.Given.{ClassIn, RowOf, atTop, inIss, Reserved, aborts, debugs, NoStatus, ofAbort, ofDebug, ofSError, AetRead, GivenWhen}
 use Rattle.reading.proofs.HasBits.{bits-is, bits-of}
 use Rattle.reading.proofs.Applies.{describes-listed}
@@ -58,12 +59,6 @@ clear k cs = some (clears k) cs
 -- the number by which a kind refuses
 abbrev kindNumber : Kind → ℕ
 kindNumber k = reasonNumber (reasonOf k)
-
-abbrev isChecked : Kind → Bool
-isChecked Free = false
-isChecked (Coded reason) = false
-isChecked Checked = true
-isChecked Unchecked = false
 
 abbrev at : ℕ → ℕ → Row → Bool
 at s w r = eqb (r .start) s && eqb (r .width) w
@@ -122,13 +117,12 @@ test7 classes r = at 0 25 r && (onlyFor (0x0A ∷ []) classes && lacks [] 3 r)
 
 abbrev tested : Served → ℕ → Line → Bool
 tested s i l =
-    for 1 (l .row) (isChecked (rowKind (l .row)))
-    && (for 2 (l .row) false
+    for 2 (l .row) false
     && (for 3 (l .row) (test3 (s .classes) l)
     && (for 4 (l .row) (test4 (s .classes) l)
     && (for 5 (l .row) (test5 s l)
     && (for 6 (l .row) (test6 (s .classes) (l .row))
-    && for 7 (l .row) (test7 (s .classes) (l .row)))))))
+    && for 7 (l .row) (test7 (s .classes) (l .row))))))
 
 abbrev testedTable : ℕ → Served → Bool
 testedTable i s = every (tested s) 0 (s .table .lines)
@@ -150,7 +144,7 @@ either false b t f g = g t
 or-else : (a b : Bool) → T (a || b) → (T a → ⊥) → T b
 or-else a b t h = either a b t (λ x. absurd (h x)) (λ y. y)
 
-bits-shifted : {v x a b s w : ℕ} → a ≡ s → b ≡ w → HasBits v a b x → HasBits v s w x
+pub bits-shifted : {v x a b s w : ℕ} → a ≡ s → b ≡ w → HasBits v a b x → HasBits v s w x
 bits-shifted {v} {x} {a} {b} {s} {w} p q o = subst (λ (y : ℕ). HasBits v s y x) q (subst (λ (y : ℕ). HasBits v y b x) p o)
 
 just-own : (v s w x : ℕ) (t : Test) → T (just s w x t) → Holding v t → HasBits v s w x
@@ -217,21 +211,24 @@ clear-meets v k i (c ∷ cs) t o =
     )
 
 unmet-bits : {v : ℕ} {row : Row} {f : Refusal} → Unmet v row f → HasBits v (row .start) (row .width) (f .carries)
-unmet-bits (notZero o k e h) = o
-unmet-bits (notListed o k h) = o
+unmet-bits (notZero o k e b h) = o
+unmet-bits (notListed o k b h) = o
 
 unmet-kind : {v : ℕ} {row : Row} {f : Refusal} → Unmet v row f → kindNumber (rowKind row) ≡ refusalNumber f
-unmet-kind (notZero o k e h) = ap kindNumber k ∙ sym (ap reasonNumber e)
-unmet-kind (notListed o k h) = ap kindNumber k
+unmet-kind (notZero o k e b h) = ap kindNumber k ∙ sym (ap reasonNumber e)
+unmet-kind (notListed o k b h) = ap kindNumber k
 
-unmet-zero : {v : ℕ} {row : Row} {f : Refusal} → RowOf v row → (kindNumber (rowKind row) ≡ 1 → T (isChecked (rowKind row))) → Unmet v row f → f .reason ≡ InvalidRes0
-    → Reserved v (f .carries) × (f .carries ≡ 0 → ⊥)
-unmet-zero {v} {row} of t (notZero o k e h) i = (record { row = row; of = of; kind = k; has = o }, h)
-unmet-zero of t (notListed o k h) i = absurd (subst (λ (x : Kind). T (isChecked x)) k (t (ap kindNumber k ∙ ap reasonNumber i)))
+unmet-zero : {v : ℕ} {row : Row} {f : Refusal} → RowOf v row → Unmet v row f → f .reason ≡ InvalidRes0 → Reserved v f × (f .carries ≡ 0 → ⊥)
+unmet-zero {v} {row} of (notZero o k e b h) i = (record { row = row; of = of; kind = k; names = b; has = o }, h)
+unmet-zero {v} {row} of (notListed o k b h) i = absurd (not-res0 (row .kind) (k ∙ ap Coded i))
+
+unmet-unnamed : {v : ℕ} {row : Row} {f : Refusal} → Unmet v row f → (f .reason ≡ InvalidRes0 → ⊥) → Names f 0 0
+unmet-unnamed (notZero o k e b h) i = absurd (i e)
+unmet-unnamed (notListed o k b h) i = b
 
 unmet-list : {v : ℕ} {row : Row} {f : Refusal} → Unmet v row f → (refusalNumber f ≡ 1 → ⊥) → Listed (row .rule) (f .carries) → ⊥
-unmet-list (notZero o k e h) i = absurd (i (ap reasonNumber e))
-unmet-list (notListed o k h) i = h
+unmet-list (notZero o k e b h) i = absurd (i (ap reasonNumber e))
+unmet-list (notListed o k b h) i = h
 
 module _ (v : ℕ) (f : Refusal) (s : Served) (k : Classed v s) (i : ℕ) (l : Line) (m : Meets v (l .conditions)) (t : T (tested s i l))
     (of : RowOf v (l .row)) (u : Unmet v (l .row) f)
@@ -287,15 +284,14 @@ module _ (v : ℕ) (f : Refusal) (s : Served) (k : Classed v s) (i : ℕ) (l : L
   line-given =
       let r : Row = l .row in
       let cs : List ℕ = s .classes in
-      let t2 : _ = both-right (for 1 r (isChecked (rowKind r))) _ t in
-      let t3 : _ = both-right (for 2 r false) _ t2 in
+      let t3 : _ = both-right (for 2 r false) _ t in
       let t4 : _ = both-right (for 3 r (test3 cs l)) _ t3 in
       let t5 : _ = both-right (for 4 r (test4 cs l)) _ t4 in
       let t6 : _ = both-right (for 5 r (test5 s l)) _ t5 in
       let t7 : _ = both-right (for 6 r (test6 cs r)) _ t6 in
       record {
-        invalidRes0 = unmet-zero of (for-at 1 r (isChecked (rowKind r)) (both-left (for 1 r (isChecked (rowKind r))) _ t)) u;
-        invalidEc = λ e. absurd (by-number 2 InvalidEc false (both-left (for 2 r false) _ t2) refl e);
+        invalidRes0 = unmet-zero of u;
+        invalidEc = λ e. absurd (by-number 2 InvalidEc false (both-left (for 2 r false) _ t) refl e);
         invalidFsc =
             λ e.
             let x : T (test3 cs l) = by-number 3 InvalidFsc (test3 cs l) (both-left (for 3 r (test3 cs l)) _ t3) refl e in (
@@ -342,6 +338,7 @@ module _ (v : ℕ) (f : Refusal) (s : Served) (k : Classed v s) (i : ℕ) (l : L
               above (ltb (f .carries) 3) refl (λ h. value-in [] 3 (both-right (onlyFor (0x0A ∷ []) cs) _ y) h (not-one 5 InvalidLd64bIss refl e)),
               class-in (0x0A ∷ []) (both-left (onlyFor (0x0A ∷ []) cs) _ y),
             );
+        unnamed = unmet-unnamed u;
       }
     where
       above : (b : Bool) → ltb (f .carries) 3 ≡ b → (f .carries < 3 → List·Memᴰ (f .carries) []) → 2 < f .carries
@@ -475,13 +472,14 @@ module _ (v : ℕ) (f : Refusal) where
   top-given u =
       let e : 1 ≡ refusalNumber f = unmet-kind u in
       record {
-        invalidRes0 = unmet-zero (atTop refl) (λ h. tt) u;
+        invalidRes0 = unmet-zero (atTop refl) u;
         invalidEc = differs InvalidEc e tt;
         invalidFsc = differs InvalidFsc e tt;
         invalidSet = differs InvalidSet e tt;
         invalidAet = differs InvalidAet e tt;
         invalidAm = differs InvalidAm e tt;
         invalidLd64bIss = differs InvalidLd64bIss e tt;
+        unnamed = unmet-unnamed u;
       }
 
   class-given : Unmet v class f → GivenWhen v f
@@ -496,6 +494,7 @@ module _ (v : ℕ) (f : Refusal) where
         invalidAet = differs InvalidAet e tt;
         invalidAm = differs InvalidAm e tt;
         invalidLd64bIss = differs InvalidLd64bIss e tt;
+        unnamed = unmet-unnamed u;
       }
     where
       by : (s : Served) → Classed v s → ClassOf v → ⊥

@@ -12,10 +12,11 @@ use Rattle.promise.proofs.Tests.{both-left, true-is, is-true}
 use Rattle.texts.specs.Pool.{describes, textCode, textAt, descriptionOf}
 use Rattle.texts.proofs.Laws.{text-described}
 use Rattle.refusals.specs.Refusals.{refusalNumber, carrying, noRefusal}
+use Rattle.refusals.proofs.Theorems.{by-parts}
 use Rattle.refusals.specs.declared.Refusal.{Refusal}
 use Rattle.records.specs.Bits.{fieldOf}
 use Rattle.records.specs.Rows.{valueIn, recordOf, meets, refusalOf, rowKind}
-use Rattle.records.specs.Kinds.{Kind, Free, Unchecked, Checked, Coded, allows, reasonOf}
+use Rattle.records.specs.Kinds.{Kind, Free, Unchecked, Checked, Coded, allows, reasonOf, named}
 use Rattle.records.specs.declared.Record.{Record}
 use Rattle.records.specs.declared.Row.{Row}
 use Rattle.esr.specs.Decode.{firstFailure}
@@ -56,25 +57,28 @@ module _ (v : ℕ) (row : Row) where
   -- a row that is not met refuses for its reason, carrying its field
   unmet-fails : (f : Refusal) → Unmet v row f → (meets v row ≡ false) × (refusalOf v row ≡ f)
   unfolding meets refusalOf
-  unmet-fails f (notZero h k e z) = (
+  unmet-fails f (notZero h k e b z) = (
     false-is (meets v row) (λ t. z (bits-is h ∙ eqb→eq (valueIn v row) 0 (subst (λ (x : Kind). T (allows x (row .rule) (valueIn v row))) k t))),
-    ap₂ carrying (ap reasonOf k ∙ sym e) (sym (bits-is h)),
+    by-parts (refusalOf v row) f (sym (bits-is h)) (ap (λ (x : Kind). named x (row .start)) k ∙ sym (b .0))
+        (ap (λ (x : Kind). named x (row .width)) k ∙ sym (b .1)) (ap reasonOf k ∙ sym e),
   )
-  unmet-fails f (notListed h k n) = (
+  unmet-fails f (notListed h k b n) = (
     false-is (meets v row)
         (λ t. n (describes-listed (row .rule) (f .carries)
         (subst (λ (x : ℕ). T (describes (row .rule) x)) (sym (bits-is h)) (subst (λ (x : Kind). T (allows x (row .rule) (valueIn v row))) k t)))),
-    ap₂ carrying (ap reasonOf k) (sym (bits-is h)),
+    by-parts (refusalOf v row) f (sym (bits-is h)) (ap (λ (x : Kind). named x (row .start)) k ∙ sym (b .0))
+        (ap (λ (x : Kind). named x (row .width)) k ∙ sym (b .1)) (ap reasonOf k),
   )
 
   fails-unmet : meets v row ≡ false → Unmet v row (refusalOf v row)
   unfolding meets refusalOf
   fails-unmet e = by (rowKind row) refl e
     where
-      by : (k : Kind) → rowKind row ≡ k → allows k (row .rule) (valueIn v row) ≡ false → Unmet v row (carrying (reasonOf k) (valueIn v row))
+      by : (k : Kind) → rowKind row ≡ k → allows k (row .rule) (valueIn v row) ≡ false
+          → Unmet v row (record { carries = valueIn v row; start = named k (row .start); width = named k (row .width); reason = reasonOf k })
       by Free k e = absurd (subst T e tt)
-      by (Coded reason) k e = notListed (bits-of v (row .start) (row .width)) k (λ l. subst T e (listed-describes l))
-      by Checked k e = notZero (bits-of v (row .start) (row .width)) k refl (λ z. subst T e (is-true (eq-eqb (valueIn v row) 0 z)))
+      by (Coded reason) k e = notListed (bits-of v (row .start) (row .width)) k (refl, refl) (λ l. subst T e (listed-describes l))
+      by Checked k e = notZero (bits-of v (row .start) (row .width)) k refl (refl, refl) (λ z. subst T e (is-true (eq-eqb (valueIn v row) 0 z)))
       by Unchecked k e = absurd (subst T e tt)
 
 -- The first failure.
@@ -121,8 +125,8 @@ pass-or-first v (r ∷ rs) = by (meets v r) refl (pass-or-first v rs)
 
 -- a first failure is by a number of those that refuse a value
 unmet-number : (v : ℕ) (row : Row) (f : Refusal) → T (numbered (rowKind row)) → Unmet v row f → T (member (refusalNumber f) refusing)
-unmet-number v row f t (notZero h k e z) = subst (λ (n : ℕ). T (member n refusing)) (sym (ap (λ r. refusalNumber (carrying r 0)) e)) tt
-unmet-number v row f t (notListed h k n) = subst (λ (x : Kind). T (numbered x)) k t
+unmet-number v row f t (notZero h k e b z) = subst (λ (n : ℕ). T (member n refusing)) (sym (ap (λ r. refusalNumber (carrying r 0)) e)) tt
+unmet-number v row f t (notListed h k b n) = subst (λ (x : Kind). T (numbered x)) k t
 
 pub first-number : (v : ℕ) (f : Refusal) (rows : List Row) → Each (λ r. T (numbered (rowKind r))) rows → First v f rows → T (member (refusalNumber f) refusing)
 first-number v f (r ∷ rs) t (here u) = unmet-number v r f (t r (List·Memᴰ·head refl)) u
@@ -195,7 +199,8 @@ module _ (v : ℕ) where
   unfolding firstFailure meets refusalOf
   first-iss [] t = refl
   first-iss (r ∷ rs) t =
-      ap₂ (λ (n : ℕ) (f : Refusal). cond (allows (rowKind r) (r .rule) n) f (carrying (reasonOf (rowKind r)) n)) (in-iss r (t r (List·Memᴰ·head refl)))
+      ap₂ (λ (n : ℕ) (f : Refusal). cond (allows (rowKind r) (r .rule) n) f
+      (record { carries = n; start = named (rowKind r) (r .start); width = named (rowKind r) (r .width); reason = reasonOf (rowKind r) })) (in-iss r (t r (List·Memᴰ·head refl)))
       (first-iss rs (λ x m. t x (List·Memᴰ·tail m)))
 
   pub records-iss : (rows : List Row) → Each (λ r. T (fitting r)) rows → map (recordOf (fieldOf v 0 25)) rows ≡ map (recordOf v) rows

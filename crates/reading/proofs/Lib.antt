@@ -11,3 +11,4 @@ pub mod Sums
 pub mod Torn
 pub mod ShutOut
 pub mod Given
+pub mod Named

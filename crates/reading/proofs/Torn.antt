@@ -4,7 +4,7 @@ use mathlib.Core.Logic.{_⊎_, inl, inr}
 use mathlib.Core.Bool.{Bool, true, false, cond}
 use Prim.Native.Nat.{ℕ}
 use native.Mathlib.Omega.{arith}
-use Rattle.refusals.specs.Refusals.{refusalNumber, carrying}
+use Rattle.refusals.specs.Refusals.{refusalNumber, carrying, reservedBits}
 use Rattle.refusals.specs.declared.Reason.the-variants.{InvalidRes0, InvalidEc}
 use Rattle.records.specs.Bits.{fieldOf}
 use Rattle.records.specs.Kinds.{kindOf}
@@ -17,10 +17,10 @@ use Rattle.reading.specs.Reading.{HasBits}
 use Rattle.reading.proofs.HasBits.{bits-is, part, inner}
 use Rattle.reading.proofs.Reading.{refused-is}
 
--- A value whose upper half is all ones is refused with number 1, carrying all ones of 37..64, whatever its lower half is.
-pub torn-upper : (esr : ℕ) (r : Answer) → Decoded esr r → HasBits esr 32 32 0xFFFFFFFF → r .refusal ≡ carrying InvalidRes0 0x7FFFFFF
+-- A value whose upper half is all ones is refused with number 1, naming 37..64 and carrying all its ones, whatever its lower half is.
+pub torn-upper : (esr : ℕ) (r : Answer) → Decoded esr r → HasBits esr 32 32 0xFFFFFFFF → r .refusal ≡ reservedBits 37 27 0x7FFFFFF
 unfolding answerOf meets refusalOf fieldOf kindOf
-torn-upper esr r d o = refused-is r (carrying InvalidRes0 0x7FFFFFF) (d ∙ rw bits refl)
+torn-upper esr r d o = refused-is r (reservedBits 37 27 0x7FFFFFF) (d ∙ rw bits refl)
   where
     bits : fieldOf esr 37 27 ≡ 0x7FFFFFF
     bits = sym (part 32 32 esr 5 27 (omega arith)) ∙ ap (λ (x : ℕ). fieldOf x 5 27) (sym (bits-is o))

@@ -23,11 +23,17 @@ pub record Met (v : ℕ) (row : Row) : Type 0 where
   pub has : HasBits v (row .start) (row .width) value
   pub allowed : Allowed (rowKind row) (row .rule) value
 
--- it is not, and the refusal carries it: "1, a checked reserved field isn't 0"; the others, a coded field is not on its list, for the reason
--- that the row names
+-- a refusal names these bits by start and width (#105)
+abbrev pub Names : Refusal → ℕ → ℕ → Type 0
+Names f start width = (f .start ≡ start) × (f .width ≡ width)
+
+-- it is not, and the refusal carries it: "1, a checked reserved field isn't 0", and the field is named; the others, a coded field is not on its
+-- list, for the reason that the row names: "Other refusals carry 0 for both"
 pub data Unmet (v : ℕ) (row : Row) (f : Refusal) : Type 0 where
-  notZero : HasBits v (row .start) (row .width) (f .carries) → rowKind row ≡ Checked → f .reason ≡ InvalidRes0 → (f .carries ≡ 0 → ⊥) → Unmet v row f
-  notListed : HasBits v (row .start) (row .width) (f .carries) → rowKind row ≡ Coded (f .reason) → (Listed (row .rule) (f .carries) → ⊥) → Unmet v row f
+  notZero : HasBits v (row .start) (row .width) (f .carries) → rowKind row ≡ Checked → f .reason ≡ InvalidRes0 → Names f (row .start) (row .width)
+      → (f .carries ≡ 0 → ⊥) → Unmet v row f
+  notListed : HasBits v (row .start) (row .width) (f .carries) → rowKind row ≡ Coded (f .reason) → Names f 0 0
+      → (Listed (row .rule) (f .carries) → ⊥) → Unmet v row f
 
 -- a kind that asks something
 pub data IsCheck : Kind → Type 0 where

@@ -1,17 +1,19 @@
 -- What a kind asks by its number: the number of a kind gives it back, the last ones are coded, and what is past them asks nothing. One computed
 -- test over the list of kinds.
 use mathlib.Core.Path.{_≡_, refl, sym, ap, subst}
-use mathlib.Core.Bool.{Bool, true, false, cond}
-use mathlib.Core.List.{map}
+use mathlib.Core.Bool.{Bool, true, false, cond, not}
+use mathlib.Core.List.{List, [], _∷_, map}
 use Prim.Native.Nat.{ℕ, zero, suc, _≤_, _<_}
 use native.Mathlib.Omega.{arith}
-use lib.Dec.{T, ltb}
-use lib.ListN.{List·getD-eq-default}
+use lib.Dec.{T, eqb, ltb}
+use lib.ListN.{getD, List·getD-eq-default}
 use borrow.Author.Tests.{lt-ltb, le-ltb, ltb-true, ltb-false}
-use Rattle.promise.proofs.Tests.{every-at}
+use Rattle.promise.proofs.Tests.{every, every-at, both-left, both-right}
 use Rattle.texts.specs.Pool.{describes}
-use Rattle.refusals.specs.declared.Reason.the-variants.{None}
-use Rattle.records.specs.Kinds.{Kind, Free, Unchecked, Checked, Coded, kinds, kindOf, kindNumber, allows, reasonOf}
+use Rattle.refusals.specs.Refusals.{reasonNumber}
+use Rattle.refusals.specs.declared.Reason.{Reason}
+use Rattle.refusals.specs.declared.Reason.the-variants.{None, InvalidRes0}
+use Rattle.records.specs.Kinds.{Kind, Free, Unchecked, Checked, Coded, coding, kinds, kindOf, kindNumber, allows, reasonOf, named}
 
 -- each kind is that of its number
 pub kinds-kept : map (λ k. kindOf (kindNumber k)) kinds ≡ kinds
@@ -81,3 +83,32 @@ unfolding kindOf
 no-reason zero h = refl
 no-reason (suc zero) h = refl
 no-reason (suc (suc n)) h = ap reasonOf (sym (past (suc (suc n)) (h (omega arith))))
+
+coded-unnamed : (rs : List Reason) (n m : ℕ) → named (getD (map Coded rs) n Free) m ≡ 0
+coded-unnamed [] n m = refl
+coded-unnamed (r ∷ rs) zero m = refl
+coded-unnamed (r ∷ rs) (suc n) m = coded-unnamed rs n m
+
+-- no kind but that of a checked reserved field names it
+pub unnamed : (n m : ℕ) → (n ≡ 2 → ⊥) → named (kindOf n) m ≡ 0
+unfolding kindOf
+unnamed zero m h = refl
+unnamed (suc zero) m h = refl
+unnamed (suc (suc zero)) m h = absurd (h refl)
+unnamed (suc (suc (suc n))) m h = coded-unnamed coding n m
+
+abbrev codedRes0 : Kind → Bool
+codedRes0 Free = false
+codedRes0 Unchecked = false
+codedRes0 Checked = false
+codedRes0 (Coded reason) = eqb (reasonNumber reason) 1
+
+never : (ks : List Kind) (i n : ℕ) → T (every (λ j k. not (codedRes0 k)) i ks) → T (not (codedRes0 (getD ks n Free)))
+never [] i n t = tt
+never (k ∷ ks) i zero t = both-left (not (codedRes0 k)) _ t
+never (k ∷ ks) i (suc n) t = never ks (suc i) n (both-right (not (codedRes0 k)) _ t)
+
+-- no coded row refuses by 1
+pub not-res0 : (n : ℕ) → kindOf n ≡ Coded InvalidRes0 → ⊥
+unfolding kindOf
+not-res0 n e = subst (λ (k : Kind). T (not (codedRes0 k))) e (never kinds 0 n tt)

@@ -50,3 +50,10 @@ reasonOf Free = None
 reasonOf Unchecked = None
 reasonOf Checked = InvalidRes0
 reasonOf (Coded reason) = reason
+
+-- #105: a checked reserved field that refuses is named, by its start and its width; of every other refusal both are 0
+abbrev pub named : Kind → ℕ → ℕ
+named Free n = 0
+named Unchecked n = 0
+named Checked n = n
+named (Coded reason) n = 0

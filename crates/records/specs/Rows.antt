@@ -2,10 +2,9 @@
 use Prim.Native.Nat.{ℕ}
 use mathlib.Core.Bool.{Bool}
 use Rattle.texts.specs.Pool.{textCode}
-use Rattle.refusals.specs.Refusals.{carrying}
 use Rattle.refusals.specs.declared.Refusal.{Refusal}
 use Rattle.records.specs.Bits.{fieldOf}
-use Rattle.records.specs.Kinds.{Kind, kindOf, allows, reasonOf}
+use Rattle.records.specs.Kinds.{Kind, kindOf, allows, reasonOf, named}
 use Rattle.records.specs.declared.Record.{Record}
 use Rattle.records.specs.declared.Row.{Row}
 
@@ -32,4 +31,10 @@ meets v r = allows (rowKind r) (r .rule) (valueIn v r)
 
 -- a row's refusal carries its field, shifted down
 unfoldable pub refusalOf : ℕ → Row → Refusal
-refusalOf v r = carrying (reasonOf (rowKind r)) (valueIn v r)
+refusalOf v r =
+    record {
+      carries = valueIn v r;
+      start = named (rowKind r) (r .start);
+      width = named (rowKind r) (r .width);
+      reason = reasonOf (rowKind r);
+    }

@@ -96,14 +96,21 @@ impl Row {
         true
     }
 
-    // What the row answers where its field is not as it asks: the reason of its kind, carrying its field.
+    // What the row answers where its field is not as it asks: the reason of its kind, carrying its field. A reserved field is named too.
     pub fn refusal(self, v: u64) -> Refusal
         ensures { λ r. ⌜ Refused (self, v) r ⌝ }
     {
-        Refusal {
-            carries: field(v, self.start, self.width),
-            reason: reason_of(self.kind),
+        let carries = field(v, self.start, self.width);
+        let kind = self.kind;
+        if kind == kinds::CHECKED {
+            return Refusal {
+                carries,
+                start: self.start,
+                width: self.width,
+                reason: Reason::InvalidRes0,
+            };
         }
+        Refusal::carrying(reason_of(kind), carries)
     }
 }
 

@@ -22,7 +22,7 @@ unfoldable pub decoded : ℕ → List ℕ
 decoded esr =
     cond (passed (answerOf esr .refusal))
     (recordLines (answerOf esr .records))
-    (carriedLine (refusalNumber (answerOf esr .refusal)) (answerOf esr .refusal .carries))
+    (carriedLine (answerOf esr .refusal))
 
 unfoldable pub recordsReply : Number → List ℕ
 recordsReply n = cond (passed (n .refusal)) (numberLine (bytes "> 0x") 16 (n .value) ++ decoded (n .value)) (numberReply n)

@@ -25,9 +25,8 @@ fn put_decoded(buf: &mut [u8], at: usize, esr: u64) -> usize
 {
     let answer = esr::decode(esr);
     let refusal = answer.refusal;
-    let reason = refusal.number();
-    if reason != 0 {
-        return put_carried(buf, at, reason, refusal.carries);
+    if refusal.number() != 0 {
+        return put_carried(buf, at, refusal);
     }
     put_record_lines(buf, at, answer.records)
 }

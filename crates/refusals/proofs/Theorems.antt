@@ -1,5 +1,5 @@
 -- Every refusal's number is on 01's list, is that of no other reason, and is not 17: by the cases of the reason, and so of every answer that holds
--- a refusal.
+-- a refusal. And a refusal is its parts.
 use mathlib.Core.Bool.{cond}
 use mathlib.Core.List.{List, [], _∷_, List·Memᴰ}
 use mathlib.Core.Path.{_≡_, refl, sym, ap, _∙_, subst}
@@ -55,3 +55,13 @@ one-reason a b e = sym (known a .1) ∙ ap (reasonIn reasons) e ∙ known b .1
 pub unused : (reason : Reason) → reasonNumber reason ≡ 17 → ⊥
 unfolding numbers
 unused reason e = subst (λ (n : ℕ). T (member n numbers)) e (known reason .0)
+
+unfoldable made : ℕ → ℕ → ℕ → Reason → Refusal
+made c s w reason = record { carries = c; start = s; width = w; reason = reason }
+
+eta : (f : Refusal) → f ≡ made (f .carries) (f .start) (f .width) (f .reason)
+unfolding made
+eta f = refl
+
+pub by-parts : (f g : Refusal) → f .carries ≡ g .carries → f .start ≡ g .start → f .width ≡ g .width → f .reason ≡ g .reason → f ≡ g
+by-parts f g c s w e = cc (eta f, eta g)

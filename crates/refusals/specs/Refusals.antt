@@ -34,9 +34,13 @@ numbers = 0 ∷ 1 ∷ 2 ∷ 3 ∷ 4 ∷ 5 ∷ 6 ∷ 7 ∷ 8 ∷ 9 ∷ 10 ∷ 11 
 abbrev pub refusalNumber : Refusal → ℕ
 refusalNumber f = reasonNumber (f .reason)
 
--- a refusal that carries this; one that carries nothing; nothing refused
+-- #105: "Refusal 1 shall carry the field's start and width besides its value": the reserved field of these bits
+abbrev pub reservedBits : ℕ → ℕ → ℕ → Refusal
+reservedBits start width c = record { carries = c; start = start; width = width; reason = InvalidRes0 }
+
+-- "Other refusals carry 0 for both": one that carries this; one that carries nothing; nothing refused
 abbrev pub carrying : Reason → ℕ → Refusal
-carrying reason c = record { carries = c; reason = reason }
+carrying reason c = record { carries = c; start = 0; width = 0; reason = reason }
 
 abbrev pub bare : Reason → Refusal
 bare reason = carrying reason 0

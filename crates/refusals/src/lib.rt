@@ -1,5 +1,5 @@
 // 01's refusals: the reason, its number, and what a refusal carries. Nothing lies below but what a promise is.
-ghost use Rattle.refusals.specs.Promises.{Number};
+ghost use Rattle.refusals.specs.Promises.{Carrying, Number};
 
 // The reasons, in the order of their numbers; None where nothing is refused.
 pub enum Reason {
@@ -49,17 +49,33 @@ impl Reason {
     }
 }
 
-// A reason and what it carries: 0 where 01 names nothing.
+// A reason and what it carries: 0 where 01 names nothing. InvalidRes0 also names its field, by the bit where it starts and its width; of every other
+// refusal both are 0 (#105).
 pub struct Refusal {
     pub carries: u64,
+    pub start: u8,
+    pub width: u8,
     pub reason: Reason,
 }
 
 impl Refusal {
     pub const NONE: Refusal = Refusal {
         carries: 0,
+        start: 0,
+        width: 0,
         reason: Reason::None,
     };
+
+    pub fn carrying(reason: Reason, carries: u64) -> Self
+        ensures { λ r. ⌜ Carrying (reason, carries) r ⌝ }
+    {
+        Refusal {
+            carries,
+            start: 0,
+            width: 0,
+            reason,
+        }
+    }
 
     pub fn number(self) -> u8
         ensures { λ r. ⌜ Number (self .reason) r ⌝ }

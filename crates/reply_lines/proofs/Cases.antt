@@ -1,25 +1,37 @@
--- The words of a refusal by whether it has a message; of the project's own pool words of our own are the definition's.
+-- The words of a refusal by whether it has a message, and its field where it names one; of the project's own pool words of our own are the definition's.
 use Prim.Native.Nat.{ℕ}
 use mathlib.Core.Bool.{true, false}
-use mathlib.Core.List.{List}
+use mathlib.Core.List.{List, [], _++_}
 use mathlib.Core.Path.{_≡_, sym, _∙_}
+use borrow.Author.Tests.{eq-eqb, ne-eqb}
 use Rattle.buffer.proofs.Lent.{lent-text}
 use Rattle.buffer.specs.Lent.{Lent, partIn}
-use Rattle.reply_lines.specs.Lines.{why}
+use Rattle.digits.specs.Digits.{numeral}
+use Rattle.refusals.specs.Refusals.{refusalNumber}
+use Rattle.refusals.specs.declared.Refusal.{Refusal}
+use Rattle.reply_lines.specs.Lines.{why, fieldPart}
 use Rattle.strings.proofs.Messages.{has-message}
 use Rattle.strings.specs.Messages.{messageText}
 use Rattle.texts.proofs.Laws.{text-described}
 use Rattle.texts.specs.Pool.{bytes, bytesAt, describes, descriptionOf, textCode}
 use Rattle.texts.specs.Rules.{message, ownWords}
 
-module _ (number carried : ℕ) where
-  pub why-message : describes (message .number) number ≡ true → why number carried ≡ messageText number carried
+module _ (f : Refusal) (n : ℕ) (is : n ≡ refusalNumber f) where
+  pub why-message : describes (message .number) n ≡ true → why f ≡ messageText n (f .carries) (f .start) (f .width)
   unfolding why
-  why-message h = rw (sym (has-message number) ∙ h)
+  why-message h = rw (← is, sym (has-message n) ∙ h)
 
-  pub why-own : describes (message .number) number ≡ false → why number carried ≡ bytes (descriptionOf (ownWords .number) number)
+  pub why-own : describes (message .number) n ≡ false → why f ≡ bytes (descriptionOf (ownWords .number) n)
   unfolding why
-  why-own h = rw (sym (has-message number) ∙ h)
+  why-own h = rw (← is, sym (has-message n) ∙ h)
+
+  pub field-named : n ≡ 1 → fieldPart f ≡ bytes " start=" ++ numeral 10 (f .start) ++ bytes " width=" ++ numeral 10 (f .width)
+  unfolding fieldPart
+  field-named h = rw (← is, eq-eqb n 1 h)
+
+  pub field-unnamed : (n ≡ 1 → ⊥) → fieldPart f ≡ []
+  unfolding fieldPart
+  field-unnamed h = rw (← is, ne-eqb n 1 h)
 
 pub words-lent : (number : ℕ) {lent starting : List ℕ} → Lent lent starting
     → partIn lent starting (textCode (ownWords .number) number) ≡ bytes (descriptionOf (ownWords .number) number)

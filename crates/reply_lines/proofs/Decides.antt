@@ -7,7 +7,7 @@ pub put-number-line-decides : Decides NumberLine
 put-number-line-decides (before, at, front, base, value) a b p q = same (p .is) (q .is)
 
 pub put-refusal-decides : Decides RefusalLine
-put-refusal-decides (before, at, number, carried) a b p q = same (p .is) (q .is)
+put-refusal-decides (before, at, refusal) a b p q = same (p .is) (q .is)
 
 pub put-carried-decides : Decides CarriedLine
-put-carried-decides (before, at, number, carried) a b p q = same (p .is) (q .is)
+put-carried-decides (before, at, refusal) a b p q = same (p .is) (q .is)

@@ -1,7 +1,8 @@
 -- The lines that every reply is made of, byte for byte.
 use Prim.Native.Nat.{ℕ}
 use mathlib.Core.Bool.{cond}
-use mathlib.Core.List.{List, _++_}
+use mathlib.Core.List.{List, [], _++_}
+use lib.Dec.{eqb}
 use Rattle.digits.specs.Digits.{numeral}
 use Rattle.refusals.specs.Refusals.{refusalNumber}
 use Rattle.refusals.specs.declared.Refusal.{Refusal}
@@ -15,20 +16,23 @@ numberLine front base n = front ++ numeral base n ++ bytes "\n"
 
 -- The refusals of a value, 1 to 7, have the Rust's message, those of lines and of entries words of our own. The others, 11 to 13, are not said of a
 -- line or of an entry, and have no words.
-unfoldable pub why : ℕ → ℕ → List ℕ
-why number carried = cond (hasMessage number) (messageText number carried) (bytes (descriptionOf (ownWords .number) number))
+unfoldable pub why : Refusal → List ℕ
+why f =
+    cond (hasMessage (refusalNumber f))
+    (messageText (refusalNumber f) (f .carries) (f .start) (f .width))
+    (bytes (descriptionOf (ownWords .number) (refusalNumber f)))
 
 -- refused N
-unfoldable pub refusedBy : ℕ → List ℕ
-refusedBy number = bytes "refused " ++ numeral 10 number
+unfoldable pub refusedBy : Refusal → List ℕ
+refusedBy f = bytes "refused " ++ numeral 10 (refusalNumber f)
 
 -- refused N: WHY
-unfoldable pub refusalLine : ℕ → ℕ → List ℕ
-refusalLine number carried = refusedBy number ++ bytes ": " ++ why number carried ++ bytes "\n"
+unfoldable pub refusalLine : Refusal → List ℕ
+refusalLine f = refusedBy f ++ bytes ": " ++ why f ++ bytes "\n"
 
-abbrev pub refusal : Refusal → List ℕ
-refusal f = refusalLine (refusalNumber f) (f .carries)
+-- refused N carried=0xH WHY; of 1, refused 1 carried=0xH start=S width=W WHY (#105)
+unfoldable pub fieldPart : Refusal → List ℕ
+fieldPart f = cond (eqb (refusalNumber f) 1) (bytes " start=" ++ numeral 10 (f .start) ++ bytes " width=" ++ numeral 10 (f .width)) []
 
--- refused N carried=0xH WHY
-unfoldable pub carriedLine : ℕ → ℕ → List ℕ
-carriedLine number carried = refusedBy number ++ bytes " carried=0x" ++ numeral 16 carried ++ bytes " " ++ why number carried ++ bytes "\n"
+unfoldable pub carriedLine : Refusal → List ℕ
+carriedLine f = refusedBy f ++ bytes " carried=0x" ++ numeral 16 (f .carries) ++ fieldPart f ++ bytes " " ++ why f ++ bytes "\n"

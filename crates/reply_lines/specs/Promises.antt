@@ -4,13 +4,14 @@ use mathlib.Core.List.{List}
 use Rattle.buffer.specs.Appending.{Appends}
 use Rattle.digits.specs.Digits.{radixOf}
 use Rattle.digits.specs.declared.Base.{Base}
+use Rattle.refusals.specs.declared.Refusal.{Refusal}
 use Rattle.reply_lines.specs.Lines.{carriedLine, numberLine, refusalLine}
 
 abbrev pub NumberLine : List ℕ × ℕ × List ℕ × Base × ℕ → ℕ × List ℕ → Type 0
 NumberLine (before, at, front, base, value) out = Appends (numberLine front (radixOf base) value) (at, before) out
 
-abbrev pub RefusalLine : List ℕ × ℕ × ℕ × ℕ → ℕ × List ℕ → Type 0
-RefusalLine (before, at, number, carried) out = Appends (refusalLine number carried) (at, before) out
+abbrev pub RefusalLine : List ℕ × ℕ × Refusal → ℕ × List ℕ → Type 0
+RefusalLine (before, at, refusal) out = Appends (refusalLine refusal) (at, before) out
 
-abbrev pub CarriedLine : List ℕ × ℕ × ℕ × ℕ → ℕ × List ℕ → Type 0
-CarriedLine (before, at, number, carried) out = Appends (carriedLine number carried) (at, before) out
+abbrev pub CarriedLine : List ℕ × ℕ × Refusal → ℕ × List ℕ → Type 0
+CarriedLine (before, at, refusal) out = Appends (carriedLine refusal) (at, before) out

@@ -14,7 +14,7 @@ use Rattle.buffer.specs.Lent.{Lent}
 use Rattle.buffer.proofs.Lent.{lent-text}
 use Rattle.digits.specs.Digits.{digitsOf, unpadded, numeral}
 use Rattle.strings.specs.Fields.{valueText, binaryText, binarySuffix, fieldText}
-use Rattle.strings.specs.Messages.{messageText, messageIn}
+use Rattle.strings.specs.Messages.{bitsText, messageText, messageIn}
 use Rattle.digits.proofs.Numerals.{length-digits, unpadded-few}
 
 -- how long the fixed words are
@@ -103,22 +103,44 @@ module _ (w v : ℕ) where
 
 -- Messages: of the project's own pool the text is the definition's, and it is short.
 
-module _ (number carried : ℕ) where
+-- the bits: of 1 alone
+pub bits-named : (number start width : ℕ) → number ≡ 1 → bitsText number start width ≡ numeral 10 start ++ (bytes ".." ++ numeral 10 (start + width))
+unfolding bitsText
+bits-named number start width h = rw (eq-eqb number 1 h)
+
+pub bits-unnamed : (number start width : ℕ) → (number ≡ 1 → ⊥) → bitsText number start width ≡ []
+unfolding bitsText
+bits-unnamed number start width h = rw (ne-eqb number 1 h)
+
+bits-few : (number start width : ℕ) → length (bitsText number start width) ≤ 130
+unfolding bitsText bytes
+bits-few number start width = by-test (eqb number 1)
+  where
+    by-test : (b : Bool) → length (cond b (numeral 10 start ++ (bytes ".." ++ numeral 10 (start + width))) []) ≤ 130
+    by-test true = simp (length-append, length-digits) (omega (arith, unpadded-few 10 start, unpadded-few 10 (start + width)))
+    by-test false = omega arith
+
+-- of 2 to 7 the bits do not matter
+pub message-unnamed : (number carried start width : ℕ) → (number ≡ 1 → ⊥) → messageText number carried 0 0 ≡ messageText number carried start width
+unfolding messageText
+message-unnamed number carried start width h = rw (bits-unnamed number start width h, bits-unnamed number 0 0 h)
+
+module _ (number carried start width : ℕ) where
   abbrev front : ℕ
   front = textCode (message .number) number
 
   abbrev end : ℕ
   end = textCode (messageEnd .number) number
 
-  message-coded : messageText number carried ≡ bytesAt front ++ (bytes "0x" ++ (numeral 16 carried ++ bytesAt end))
+  message-coded : messageText number carried start width ≡ bytesAt front ++ (bytes "0x" ++ (numeral 16 carried ++ (bytesAt end ++ bitsText number start width)))
   unfolding messageText bytesAt
   message-coded = rw (text-described (message .number) number, text-described (messageEnd .number) number)
 
-  pub message-lent : {lent starting : List ℕ} → Lent lent starting → messageIn lent starting number carried ≡ messageText number carried
+  pub message-lent : {lent starting : List ℕ} → Lent lent starting → messageIn lent starting number carried start width ≡ messageText number carried start width
   unfolding messageIn
   message-lent own = rw (lent-text front own, lent-text end own, message-coded)
 
-  pub message-small : length (messageText number carried) < 2 ^ 64
+  pub message-small : length (messageText number carried start width) < 2 ^ 64
   message-small =
       rw message-coded
-      (simp (length-append, length-digits) (omega (arith, words, text-short front, text-short end, unpadded-few 16 carried)))
+      (simp (length-append, length-digits) (omega (arith, words, text-short front, text-short end, unpadded-few 16 carried, bits-few number start width)))

@@ -10,4 +10,4 @@ pub put-field-decides : Decides FieldPut
 put-field-decides (before, at, width, value) a b p q = same (p .is) (q .is)
 
 pub put-message-decides : Decides MessagePut
-put-message-decides (before, at, lent, starting, number, carried) a b p q = same (p .is) (q .is)
+put-message-decides (before, at, lent, starting, number, carried, start, width) a b p q = same (p .is) (q .is)

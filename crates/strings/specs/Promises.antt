@@ -15,5 +15,6 @@ abbrev pub FieldPut : List ℕ × ℕ × ℕ × ℕ → ℕ × List ℕ → Type
 FieldPut (before, at, width, value) out = Appends (fieldText width value) (at, before) out
 
 -- a message from an offset on, by a pool and starts that are lent
-abbrev pub MessagePut : List ℕ × ℕ × List ℕ × List ℕ × ℕ × ℕ → ℕ × List ℕ → Type 0
-MessagePut (before, at, lent, starting, number, carried) out = Appends (messageIn lent starting number carried) (at, before) out
+abbrev pub MessagePut : List ℕ × ℕ × List ℕ × List ℕ × ℕ × ℕ × ℕ × ℕ → ℕ × List ℕ → Type 0
+MessagePut (before, at, lent, starting, number, carried, start, width) out =
+    Appends (messageIn lent starting number carried start width) (at, before) out

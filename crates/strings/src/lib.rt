@@ -2,6 +2,7 @@
 // a refusal's message.
 ghost use Rattle.buffer.specs.Appending.{Appends};
 ghost use Rattle.strings.specs.Fields.{binaryText, valueText};
+ghost use Rattle.strings.specs.Messages.{bitsText};
 ghost use Rattle.strings.specs.Promises.{FieldPut, MessagePut, StringPut};
 use buffer::put_bytes;
 use buffer::put_text;
@@ -9,6 +10,9 @@ use digits::Base;
 use digits::put_digits;
 use digits::put_number;
 use texts::rules;
+
+// The number of the refusal that names a field.
+pub const RES0: u64 = 1;
 
 // Which of a field's two value strings.
 pub enum Form {
@@ -57,7 +61,19 @@ pub fn put_field(buf: &mut [u8], at: usize, width: u8, value: u64) -> usize
     put_binary(buf, b, width, value)
 }
 
-// What stands before the number that a refusal carries, the number, what stands after it.
+// START..END of 1's field, the end not counted.
+fn put_bits(buf: &mut [u8], at: usize, number: u64, start: u8, width: u8) -> usize
+    ensures { λ r. ⌜ Appends (bitsText number start width) (at, now (buf .entry)) (r, now (buf .exit)) ⌝ }
+{
+    if number != RES0 {
+        return at;
+    }
+    let a = put_number(buf, at, Base::Decimal, start as u64);
+    let b = put_bytes(buf, a, b"..");
+    put_number(buf, b, Base::Decimal, start as u64 + width as u64)
+}
+
+// What stands before the number that a refusal carries, the number, what stands after it; of 1 also the bits of its field.
 pub fn put_message(
     buf: &mut [u8],
     at: usize,
@@ -65,13 +81,16 @@ pub fn put_message(
     starts: &[u16],
     number: u64,
     carried: u64,
+    start: u8,
+    width: u8,
 ) -> usize
-    ensures { λ r. ⌜ MessagePut (now (buf .entry), at, now (pool .entry), now (starts .entry), number, carried) (r, now (buf .exit)) ⌝ }
+    ensures { λ r. ⌜ MessagePut (now (buf .entry), at, now (pool .entry), now (starts .entry), number, carried, start, width) (r, now (buf .exit)) ⌝ }
 {
     let front = lookup::text_code(rules::MESSAGE, number);
     let end = lookup::text_code(rules::MESSAGE_END, number);
     let a = put_text(buf, at, pool, starts, front);
     let b = put_bytes(buf, a, b"0x");
     let c = put_number(buf, b, Base::Hex, carried);
-    put_text(buf, c, pool, starts, end)
+    let d = put_text(buf, c, pool, starts, end);
+    put_bits(buf, d, number, start, width)
 }

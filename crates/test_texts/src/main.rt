@@ -26,7 +26,7 @@ const SENTINEL: u8 = 0xFF;
 // 01's number of a text that is longer than the buffer; it carries the bytes needed.
 const SHORT_BUFFER: u64 = 11;
 
-// What is called, by number, and what it is called with. An enum of calls would take the prover half as long again.
+// What is called, by number. An enum of calls would take the prover half as long again.
 const LISTING: u8 = 0;
 
 const RECORD_LINE: u8 = 1;
@@ -37,13 +37,33 @@ const VALUE: u8 = 3;
 
 const BINARY: u8 = 4;
 
-fn made(function: u8, first: u64, second: u64, buf: &mut [u8]) -> Written {
+// A function, and what it is called with; only a message has a start and a width.
+struct Call {
+    function: u8,
+    first: u64,
+    second: u64,
+    start: u64,
+    width: u64,
+}
+
+fn plain(function: u8, first: u64, second: u64) -> Call {
+    Call {
+        function,
+        first,
+        second,
+        start: 0,
+        width: 0,
+    }
+}
+
+fn made(call: Call, buf: &mut [u8]) -> Written {
+    let function = call.function;
     match function {
-        LISTING => return listing::listing(first, buf),
-        RECORD_LINE => return listing::record_line(first, second as usize, buf),
-        MESSAGE => return written::message(first, second, buf),
-        VALUE => return written::value_string(first, second, buf),
-        _ => return written::value_binary_string(first, second, buf),
+        LISTING => return listing::listing(call.first, buf),
+        RECORD_LINE => return listing::record_line(call.first, call.second as usize, buf),
+        MESSAGE => return written::message(call.first, call.second, call.start, call.width, buf),
+        VALUE => return written::value_string(call.first, call.second, buf),
+        _ => return written::value_binary_string(call.first, call.second, buf),
     }
 }
 
@@ -51,6 +71,8 @@ fn made(function: u8, first: u64, second: u64, buf: &mut [u8]) -> Written {
 struct Told {
     number: u64,
     carried: u64,
+    start: u64,
+    width: u64,
     bytes: usize,
 }
 
@@ -59,6 +81,8 @@ fn in_numbers(written: Written) -> Told {
     Told {
         number: refusal.number() as u64,
         carried: refusal.carries,
+        start: refusal.start as u64,
+        width: refusal.width as u64,
         bytes: written.bytes,
     }
 }
@@ -69,6 +93,12 @@ fn is_told(written: Written, told: Told) -> bool {
         return false;
     }
     if found.carried != told.carried {
+        return false;
+    }
+    if found.start != told.start {
+        return false;
+    }
+    if found.width != told.width {
         return false;
     }
     found.bytes == told.bytes
@@ -86,6 +116,8 @@ fn told_in(whole: Told, length: usize) -> Told {
         return Told {
             number: SHORT_BUFFER,
             carried: whole.bytes as u64,
+            start: 0,
+            width: 0,
             bytes: 0,
         };
     }
@@ -122,20 +154,12 @@ fn counted(tally: u64, right: bool) -> u64 {
     std::num::wrapping_add_u64(next, WRONG)
 }
 
-fn tried(
-    tally: u64,
-    function: u8,
-    first: u64,
-    second: u64,
-    whole: Told,
-    left: &[u8; ROOM],
-    length: usize,
-) -> u64 {
+fn tried(tally: u64, call: Call, whole: Told, left: &[u8; ROOM], length: usize) -> u64 {
     if ROOM < length {
         return counted(tally, false);
     }
     let mut bytes = room();
-    let written = made(function, first, second, &mut bytes[0..length]);
+    let written = made(call, &mut bytes[0..length]);
     counted(tally, is_right(written, &bytes, whole, left, length))
 }
 
@@ -147,23 +171,16 @@ fn exact_length(whole: Told) -> usize {
 }
 
 // Length 0, one short, exact, one more and much more.
-fn with_lengths(
-    tally: u64,
-    function: u8,
-    first: u64,
-    second: u64,
-    whole: Told,
-    left: &[u8; ROOM],
-) -> u64 {
+fn with_lengths(tally: u64, call: Call, whole: Told, left: &[u8; ROOM]) -> u64 {
     let exact = exact_length(whole);
     let short = std::num::wrapping_sub_usize(exact, 1);
     let over = std::num::wrapping_add_usize(exact, 1);
     let far_over = std::num::wrapping_add_usize(exact, MORE);
-    let mut next = tried(tally, function, first, second, whole, left, 0);
-    next = tried(next, function, first, second, whole, left, short);
-    next = tried(next, function, first, second, whole, left, exact);
-    next = tried(next, function, first, second, whole, left, over);
-    tried(next, function, first, second, whole, left, far_over)
+    let mut next = tried(tally, call, whole, left, 0);
+    next = tried(next, call, whole, left, short);
+    next = tried(next, call, whole, left, exact);
+    next = tried(next, call, whole, left, over);
+    tried(next, call, whole, left, far_over)
 }
 
 fn say(text: &[u8]) {
@@ -193,40 +210,48 @@ fn say_index(index: usize) {
     space();
 }
 
-fn say_carried(name: &[u8], number: u64, carried: u64) {
+fn say_carried(name: &[u8], number: u64, carried: u64, start: u64, width: u64) {
     say_number(name, number);
     say_hex(b" carried=0x", carried);
+    say_number(b" start=", start);
+    say_number(b" width=", width);
 }
 
 // The text, or the refusal, of which there is no text.
 fn say_answer(whole: Told, text: &[u8]) {
     if whole.number != 0 {
-        say_carried(b"refused ", whole.number, whole.carried);
+        say_carried(
+            b"refused ",
+            whole.number,
+            whole.carried,
+            whole.start,
+            whole.width,
+        );
     }
     say(text);
 }
 
 // Says what a call answers, and tries it in the buffers.
-fn say_call(tally: u64, function: u8, first: u64, second: u64) -> u64 {
+fn say_call(tally: u64, call: Call) -> u64 {
     let mut bytes = room();
-    let whole = in_numbers(made(function, first, second, &mut bytes));
+    let whole = in_numbers(made(call, &mut bytes));
     let count = whole.bytes;
     if ROOM < count {
         return counted(tally, false);
     }
     say_answer(whole, &bytes[0..count]);
-    with_lengths(tally, function, first, second, whole, &bytes)
+    with_lengths(tally, call, whole, &bytes)
 }
 
-fn say_ended(tally: u64, function: u8, first: u64, second: u64) -> u64 {
-    let next = say_call(tally, function, first, second);
+fn say_ended(tally: u64, call: Call) -> u64 {
+    let next = say_call(tally, call);
     end_line();
     next
 }
 
 fn say_line(tally: u64, esr: u64, index: usize) -> u64 {
     say_index(index);
-    say_ended(tally, RECORD_LINE, esr, index as u64)
+    say_ended(tally, plain(RECORD_LINE, esr, index as u64))
 }
 
 fn say_lines(tally: u64, esr: u64, count: usize) -> u64 {
@@ -241,9 +266,9 @@ fn say_lines(tally: u64, esr: u64, count: usize) -> u64 {
 }
 
 fn say_strings(tally: u64, width: u64, value: u64) -> u64 {
-    let next = say_call(tally, VALUE, width, value);
+    let next = say_call(tally, plain(VALUE, width, value));
     space();
-    say_ended(next, BINARY, width, value)
+    say_ended(next, plain(BINARY, width, value))
 }
 
 fn say_item(tally: u64, index: usize, item: Record) -> u64 {
@@ -261,12 +286,29 @@ fn say_values(tally: u64, records: Records) -> u64 {
     next
 }
 
+fn say_message(tally: u64, number: u64, carried: u64, start: u64, width: u64) -> u64 {
+    let asked = Call {
+        function: MESSAGE,
+        first: number,
+        second: carried,
+        start,
+        width,
+    };
+    say_ended(tally, asked)
+}
+
 fn say_why(tally: u64, refusal: Refusal) -> u64 {
     let number = refusal.number();
     if number == 0 {
         return tally;
     }
-    say_ended(tally, MESSAGE, number as u64, refusal.carries)
+    say_message(
+        tally,
+        number as u64,
+        refusal.carries,
+        refusal.start as u64,
+        refusal.width as u64,
+    )
 }
 
 fn say_records(tally: u64, esr: u64) -> u64 {
@@ -279,7 +321,7 @@ fn say_records(tally: u64, esr: u64) -> u64 {
 fn say_value(tally: u64, esr: u64) -> u64 {
     say_hex(b"> 0x", esr);
     end_line();
-    say_records(say_ended(tally, LISTING, esr, 0), esr)
+    say_records(say_ended(tally, plain(LISTING, esr, 0)), esr)
 }
 
 fn say_read(tally: u64, read: Number) -> u64 {
@@ -288,7 +330,13 @@ fn say_read(tally: u64, read: Number) -> u64 {
     if number == 0 {
         return say_value(tally, read.value);
     }
-    say_carried(b"refused ", number as u64, refusal.carries);
+    say_carried(
+        b"refused ",
+        number as u64,
+        refusal.carries,
+        refusal.start as u64,
+        refusal.width as u64,
+    );
     end_line();
     tally
 }
@@ -311,6 +359,21 @@ fn say_field(tally: u64, width: u64, value: u64) -> u64 {
     say_strings(tally, width, value)
 }
 
+fn say_numbered(tally: u64, number: u64, carried: u64, start: u64, width: u64) -> u64 {
+    say_carried(b"message ", number, carried, start, width);
+    say(b": ");
+    say_message(tally, number, carried, start, width)
+}
+
+// The message of a reserved field of a width: at the top of the value, one bit past it, and with a value that is one too great.
+fn say_named(tally: u64, width: u64, ones: u64) -> u64 {
+    let top = std::num::wrapping_sub_u64(64, width);
+    let past = std::num::wrapping_add_u64(top, 1);
+    let mut next = say_numbered(tally, 1, ones, top, width);
+    next = say_numbered(next, 1, ones, past, width);
+    say_numbered(next, 1, std::num::wrapping_add_u64(ones, 1), 0, width)
+}
+
 // Each width from 0 to past 64, with 0, the greatest value and one more; the greatest of 64 bits stays where a width is past them.
 fn say_widths(tally: u64) -> u64 {
     let mut next = tally;
@@ -319,6 +382,7 @@ fn say_widths(tally: u64) -> u64 {
         next = say_field(next, width, 0);
         next = say_field(next, width, ones);
         next = say_field(next, width, std::num::wrapping_add_u64(ones, 1));
+        next = say_named(next, width, ones);
         ones = std::num::wrapping_add_u64(std::num::wrapping_add_u64(ones, ones), 1);
     }
     next
@@ -331,15 +395,9 @@ fn say_far_widths(tally: u64) -> u64 {
     say_field(next, u64::MAX, 0)
 }
 
-fn say_numbered(tally: u64, number: u64, carried: u64) -> u64 {
-    say_carried(b"message ", number, carried);
-    say(b": ");
-    say_ended(tally, MESSAGE, number, carried)
-}
-
 fn say_message_ends(tally: u64, number: u64) -> u64 {
-    let next = say_numbered(tally, number, 0);
-    say_numbered(next, number, u64::MAX)
+    let next = say_numbered(tally, number, 0, 0, 1);
+    say_numbered(next, number, u64::MAX, u64::MAX, u64::MAX)
 }
 
 fn say_messages(tally: u64) -> u64 {
@@ -357,6 +415,14 @@ fn say_far_messages(tally: u64) -> u64 {
     say_message_ends(next, u64::MAX)
 }
 
+// Bits that would be within the value if their sum wrapped, or if their upper bits were cut off.
+fn say_far_bits(tally: u64) -> u64 {
+    let mut next = say_numbered(tally, 1, 0, u64::MAX, 1);
+    next = say_numbered(next, 1, 0, 0xFFFFFFFFFFFFFFC0, 64);
+    next = say_numbered(next, 1, 0, 0x100, 8);
+    say_numbered(next, 1, 0, 8, 0x108)
+}
+
 fn say_tally(tally: u64) {
     say_number(b"buffers ", tally % WRONG);
     say_number(b" wrong ", tally / WRONG);
@@ -368,5 +434,5 @@ fn main() {
     let n = io::read_full(0, &mut given);
     let mut tally = say_given(0, &given[0..n]);
     tally = say_far_widths(say_widths(tally));
-    say_tally(say_far_messages(say_messages(tally)));
+    say_tally(say_far_bits(say_far_messages(say_messages(tally))));
 }

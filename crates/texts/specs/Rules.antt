@@ -383,7 +383,7 @@ wnrNotValid =
     [])
 
 -- The Rust's messages of refusals (lib.rs, DecodeError), by the refusal's number: what stands before the number that the refusal carries, and
--- what stands after it.
+-- what stands after it. That of 1 goes on with the bits of its field (#105).
 abbrev pub message : Rule
 message =
     rule 45 8 (
@@ -399,6 +399,7 @@ message =
 abbrev pub messageEnd : Rule
 messageEnd =
     rule 46 8 (
+    1 means ", bits " ∷
     7 means " for trapped LD64B or ST64B*" ∷
     [])
 

@@ -1,11 +1,11 @@
 // The pool, where each text starts in it, and the first code of each rule of more than one bit. Written by tools/pool from the
 // strings of specs/Names.antt and specs/Rules.antt; the prover shows that it is their bytes.
 
-pub const LENGTH: usize = 7640;
+pub const LENGTH: usize = 7647;
 pub const COUNT: usize = 531;
 pub const START_COUNT: usize = 532;
 
-pub const POOL: [u8; 7640] = *b"\
+pub const POOL: [u8; 7647] = *b"\
     RES0\
     Reserved\
     ISS2\
@@ -305,6 +305,7 @@ pub const POOL: [u8; 7640] = *b"\
     Invalid AET \
     Invalid AM \
     Invalid ISS \
+    , bits \
     \x20for trapped LD64B or ST64B*\
     there is no digit\
     a character is no digit\
@@ -345,10 +346,10 @@ pub const STARTS: [u16; 532] = [
     7301, 7301, 7301, 7301, 7330, 7330, 7330, 7330, 7330, 7330, 7330, 7330, 7330, 7330, 7330, 7330,
     7330, 7330, 7330, 7330, 7330, 7330, 7330, 7330, 7330, 7330, 7330, 7330, 7330, 7330, 7330, 7330,
     7330, 7330, 7330, 7330, 7330, 7330, 7330, 7330, 7330, 7330, 7330, 7330, 7330, 7330, 7330, 7330,
-    7330, 7330, 7330, 7350, 7350, 7371, 7382, 7403, 7415, 7427, 7438, 7450, 7450, 7450, 7450, 7450,
-    7450, 7450, 7450, 7478, 7478, 7478, 7478, 7478, 7478, 7478, 7478, 7478, 7495, 7518, 7549, 7549,
-    7549, 7549, 7584, 7612, 7640, 7640, 7640, 7640, 7640, 7640, 7640, 7640, 7640, 7640, 7640, 7640,
-    7640, 7640, 7640, 7640,
+    7330, 7330, 7330, 7350, 7350, 7371, 7382, 7403, 7415, 7427, 7438, 7450, 7450, 7457, 7457, 7457,
+    7457, 7457, 7457, 7485, 7485, 7485, 7485, 7485, 7485, 7485, 7485, 7485, 7502, 7525, 7556, 7556,
+    7556, 7556, 7591, 7619, 7647, 7647, 7647, 7647, 7647, 7647, 7647, 7647, 7647, 7647, 7647, 7647,
+    7647, 7647, 7647, 7647,
 ];
 
 // The rules of one bit have two codes each, from here on.

@@ -22,4 +22,4 @@ pub value-binary-string-decides : Decides BinaryString
 value-binary-string-decides (width, value, before) = only _ before
 
 pub message-decides : Decides Message
-message-decides (number, carried, before) = only _ before
+message-decides (number, carried, start, width, before) = only _ before

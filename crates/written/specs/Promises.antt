@@ -18,5 +18,5 @@ ValueString (width, value, before) out = Answers (valueString width value) befor
 abbrev pub BinaryString : ℕ × ℕ × List ℕ → Written × List ℕ → Type 0
 BinaryString (width, value, before) out = Answers (binaryString width value) before out
 
-abbrev pub Message : ℕ × ℕ × List ℕ → Written × List ℕ → Type 0
-Message (number, carried, before) out = Answers (messageOf number carried) before out
+abbrev pub Message : ℕ × ℕ × ℕ × ℕ × List ℕ → Written × List ℕ → Type 0
+Message (number, carried, start, width, before) out = Answers (messageOf number carried start width) before out

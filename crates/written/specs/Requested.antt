@@ -1,8 +1,8 @@
 -- What is asked for by each function that fills the front of a buffer, of its inputs alone: the refusal, or the text. "12 and 13 come
 -- before 11."
-use Prim.Native.Nat.{ℕ, _^_}
-use mathlib.Core.Bool.{Bool, cond, _&&_}
-use lib.Dec.{ltb, leb}
+use Prim.Native.Nat.{ℕ, _+_, _^_}
+use mathlib.Core.Bool.{Bool, cond, not, _&&_, _||_}
+use lib.Dec.{eqb, ltb, leb}
 use Rattle.refusals.specs.Refusals.{bare}
 use Rattle.refusals.specs.declared.Reason.the-variants.{BadField}
 use Rattle.strings.specs.Fields.{valueText, binaryText}
@@ -26,5 +26,13 @@ abbrev pub stringOf : Form → ℕ → ℕ → Outcome
 stringOf Value width value = valueString width value
 stringOf Binary width value = binaryString width value
 
-unfoldable pub messageOf : ℕ → ℕ → Outcome
-messageOf number carried = cond (hasMessage number) (text (messageText number carried)) (refused (bare BadField))
+-- #105: "for 1 answers 12 if the width isn't 1..64, start + width is above 64 or the value isn't below 2^width"
+unfoldable pub namesField : ℕ → ℕ → ℕ → Bool
+namesField start width value = fits width value && leb (start + width) 64
+
+-- "The message call takes both, ignores them for 2 to 7"
+unfoldable pub messageOf : ℕ → ℕ → ℕ → ℕ → Outcome
+messageOf number carried start width =
+    cond (hasMessage number && (not (eqb number 1) || namesField start width carried))
+    (text (messageText number carried start width))
+    (refused (bare BadField))

@@ -1,12 +1,14 @@
 // What is written at the front of a lent buffer: a field's two value strings, and a refusal's message. The whole text is measured first, by an
 // appender without a buffer; then it is refused or written. A refusal leaves the buffer as it was.
-ghost use Rattle.written.specs.Outcomes.{Answers};
+ghost use Rattle.strings.specs.Messages.{messageText};
+ghost use Rattle.written.specs.Outcomes.{Answers, text};
 ghost use Rattle.written.specs.Promises.{BinaryString, Message, ValueString, WrittenRefused};
-ghost use Rattle.written.specs.Requested.{fits as fitting, stringOf};
+ghost use Rattle.written.specs.Requested.{fits as fitting, namesField, stringOf};
 ghost use mathlib.Core.Path.{_≡_};
 use refusals::Reason;
 use refusals::Refusal;
 use strings::Form;
+use strings::RES0;
 use strings::put_message;
 use strings::put_string;
 use texts::rules;
@@ -22,7 +24,7 @@ impl Written {
         ensures { λ r. ⌜ WrittenRefused (reason, carries) r ⌝ }
     {
         Written {
-            refusal: Refusal { carries, reason },
+            refusal: Refusal::carrying(reason, carries),
             bytes: 0,
         }
     }
@@ -72,23 +74,47 @@ pub fn value_binary_string(width: u64, value: u64, buf: &mut [u8]) -> Written
     field_string(Form::Binary, width, value, buf)
 }
 
-// The message of a refusal's number, with what it carries. The number is of 64 bits, so that none is cut to one that has a message.
-pub fn message(number: u64, carried: u64, buf: &mut [u8]) -> Written
-    ensures { λ r. ⌜ Message (number, carried, now (buf .entry)) (r, now (buf .exit)) ⌝ }
+// Without a sum of start and width, which could wrap.
+fn names_field(start: u64, width: u64, value: u64) -> bool
+    ensures { λ r. ⌜ r ≡ namesField start width value ⌝ }
 {
-    if !lookup::describes(rules::MESSAGE, number) {
-        return Written::refused(Reason::BadField, 0);
+    if !fits(width, value) {
+        return false;
     }
+    start <= 64 - width
+}
+
+// The one text, of a number that has a message, whatever bits it names.
+fn message_text(number: u64, carried: u64, start: u8, width: u8, buf: &mut [u8]) -> Written
+    ensures { λ r. ⌜ Answers (text (messageText number carried start width)) (now (buf .entry)) (r, now (buf .exit)) ⌝ }
+{
     let starts = texts::text_starts();
     let pool = texts::pool_bytes();
     let mut none = [0u8; 0];
-    let bytes = put_message(&mut none, 0, &pool, &starts, number, carried);
+    let bytes = put_message(&mut none, 0, &pool, &starts, number, carried, start, width);
     if buf.len() < bytes {
         return Written::refused(Reason::ShortBuffer, bytes as u64);
     }
-    put_message(buf, 0, &pool, &starts, number, carried);
+    put_message(buf, 0, &pool, &starts, number, carried, start, width);
     Written {
         refusal: Refusal::NONE,
         bytes,
     }
+}
+
+// The message of a refusal's number, with what it carries; that of 1 names a field of the value by its bits. All are of 64 bits, so that no
+// caller's number is cut to one that has a message or to bits that there are.
+pub fn message(number: u64, carried: u64, start: u64, width: u64, buf: &mut [u8]) -> Written
+    ensures { λ r. ⌜ Message (number, carried, start, width, now (buf .entry)) (r, now (buf .exit)) ⌝ }
+{
+    if !lookup::describes(rules::MESSAGE, number) {
+        return Written::refused(Reason::BadField, 0);
+    }
+    if number != RES0 {
+        return message_text(number, carried, 0, 0, buf);
+    }
+    if !names_field(start, width, carried) {
+        return Written::refused(Reason::BadField, 0);
+    }
+    message_text(number, carried, start as u8, width as u8, buf)
 }

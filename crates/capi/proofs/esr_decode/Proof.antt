@@ -16,12 +16,13 @@ returns c =
 
 returns-2 : tie.Need-returns-2
 returns-2 c =
-    let t = c .before .before in
+    let s = c .before in
+    let t = s .before .before in
     let n = t .before in
     let d = n .before .before in
     let long : length (d .decode .result .records .items) ≡ setRoom = search (long-as, d .decode .ok .1 .1 .1 .0 .1 .1 .0) in
     let few = room _ (d .decode .ensures) (n .number .ensures) long in
-    filled-short _ _ (sym (slots-count _ long few)) (c .before .if2 .taken) (c .filled-of2 .ensures)
+    filled-short _ _ (sym (slots-count _ long few)) (s .before .if2 .taken) (s .carrying .ensures) (c .filled-of2 .ensures)
     ∙ decode-read _ (d .decode .ensures) (n .number .ensures) _ (t .if1 .left)
 
 put-records-requires : tie.Need-put-records-requires
@@ -47,6 +48,7 @@ esr-decode-spec =
     (λ c κs. search needs)
     (λ c κs. search needs)
     returns
+    (λ c κs. search needs)
     (λ c κs. search needs)
     returns-2
     put-records-requires

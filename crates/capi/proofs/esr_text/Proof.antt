@@ -5,7 +5,9 @@ use Rattle.capi.proofs.esr_text.Statement.{statement}
 use Rattle.capi.proofs.esr_text.Tie as tie
 
 returns : tie.Need-returns
-returns c = filled-short _ _ (c .before .before .length-of .ensures) (c .before .if1 .taken) (c .filled-of .ensures)
+returns c =
+    let s = c .before in
+    filled-short _ _ (s .before .before .length-of .ensures) (s .before .if1 .taken) (s .carrying .ensures) (c .filled-of .ensures)
 
 returns-2 : tie.Need-returns-2
 returns-2 c =
@@ -19,6 +21,7 @@ esr-text-spec =
     (tie.spec
     (λ c κs. search needs)
     (λ c. search needs)
+    (λ c κs. search needs)
     (λ c κs. search needs)
     returns
     (λ c κs. search needs)

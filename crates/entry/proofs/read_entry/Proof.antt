@@ -6,7 +6,7 @@ use lib.ListN.{length, drop, length-drop}
 use Rattle.entry.proofs.Laws.{part-below, facts, number-sound, number-refused, entry-sound, entry-refused}
 use Rattle.entry.specs.Entries.{judged}
 use Rattle.refusals.specs.Refusals.{bare, reasonNumber}
-use Rattle.refusals.specs.declared.Reason.{Reason}
+use Rattle.refusals.specs.declared.Refusal.{Refusal}
 use borrow.Author.Needs.{needs}
 use Rattle.entry.proofs.read_entry.Statement.{statement}
 use Rattle.entry.proofs.read_entry.Tie as tie
@@ -17,11 +17,15 @@ judge-requires c κs = search needs
 number-requires : tie.Need-number-requires
 number-requires c κs = search needs
 
+carrying-requires : tie.Need-carrying-requires
+carrying-requires c κs = search needs
+
 returns : tie.Need-returns
 returns c =
-    let n = c .before in
-    ap (λ (f : Reason). record { esr = 0; refusal = bare f; sequence = 0 }) (n .before .judge .ensures)
-    ∙ sym (entry-refused _ (number-refused (n .before .judge .ensures) (n .number .ensures) (c .if1 .taken)))
+    let i = c .before in
+    let n = i .before in
+    ap (λ (f : Refusal). record { esr = 0; refusal = f; sequence = 0 }) (c .carrying .ensures ∙ ap bare (n .before .judge .ensures))
+    ∙ sym (entry-refused _ (number-refused (n .before .judge .ensures) (n .number .ensures) (i .if1 .taken)))
 
 -- past the test nothing is refused, so that there are 13 bytes
 free : (c : tie.Else1) → reasonNumber (judged (c .before .before .before .before .args .block .now)) ≡ 0
@@ -69,6 +73,7 @@ read-entry-spec =
     (tie.spec
     judge-requires
     number-requires
+    carrying-requires
     returns
     sub-big-endian
     part-big-endian-start

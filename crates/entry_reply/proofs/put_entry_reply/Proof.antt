@@ -14,7 +14,7 @@ returns c =
     let t = p .before .before in
     let n = t .before in
     let e = n .before .before .read-entry in
-    rw (← (e .ensures), passed-no (e .result .refusal) (n .number .ensures) (t .if1 .taken), ← (n .number .ensures)) (p .put-refusal .ensures)
+    rw (← (e .ensures), passed-no (e .result .refusal) (n .number .ensures) (t .if1 .taken)) (p .put-refusal .ensures)
 
 returns-2 : tie.Need-returns-2
 unfolding entryReply

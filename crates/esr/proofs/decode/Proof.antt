@@ -1,6 +1,5 @@
 -- 01's order: the reserved top bits, the class, the layout.
 use mathlib.Core.Path.{sym, ap, _∙_}
-use Prim.Native.Nat.{ℕ}
 use native.Mathlib.Omega.{arith}
 use Rattle.texts.specs.Names.{names}
 use Rattle.texts.specs.Pool.{code, indexIn}
@@ -25,12 +24,13 @@ returns c =
 returns-2 : tie.Need-returns-2
 unfolding code indexIn names
 returns-2 c =
-    let n = c .before .before in
+    let r = c .before in
+    let n = r .before .before in
     let f = n .before in
     let m = f .before .before in
     c .refuse2 .ensures
-    ∙ ap (λ (k : ℕ). refused (carrying InvalidEc k)) (f .field .ensures)
-    ∙ class-empty (m .before .args .esr) (n .layout-number .result) (n .layout-number .ensures ∙ ap layoutNumber (f .field .ensures)) (c .before .if2 .taken)
+    ∙ ap refused (r .carrying .ensures ∙ ap (carrying InvalidEc) (f .field .ensures))
+    ∙ class-empty (m .before .args .esr) (n .layout-number .result) (n .layout-number .ensures ∙ ap layoutNumber (f .field .ensures)) (r .before .if2 .taken)
     ∙ top-passes (m .before .args .esr) (sym (m .meets .ensures) ∙ not-false _ (f .before .if1 .left))
 
 returns-3 : tie.Need-returns-3
@@ -53,6 +53,7 @@ decode-spec =
     returns
     (λ c κs. search needs)
     (λ c κs. omega (arith, c .field .ensures, field-lt (c .before .before .before .args .esr) 26 6))
+    (λ c κs. search needs)
     (λ c κs. search needs)
     returns-2
     (λ c κs. search needs)

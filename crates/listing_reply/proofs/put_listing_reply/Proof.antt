@@ -14,7 +14,7 @@ returns c =
     let n = t .before in
     let m = n .before .before .before .before in
     let f = m .before .before .before .args .number .refusal in
-    rw (passed-no f (n .number .ensures) (t .if1 .taken), ← (n .number .ensures)) (and-then (m .put-name .ensures) (p .put-refusal .ensures))
+    rw (passed-no f (n .number .ensures) (t .if1 .taken)) (and-then (m .put-name .ensures) (p .put-refusal .ensures))
 
 returns-2 : tie.Need-returns-2
 unfolding listingReply

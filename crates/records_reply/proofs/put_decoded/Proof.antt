@@ -12,7 +12,7 @@ returns c =
     let t = p .before .before in
     let n = t .before in
     let d = n .before .before .decode in
-    rw (← (d .ensures), passed-no (d .result .refusal) (n .number .ensures) (t .if1 .taken), ← (n .number .ensures)) (p .put-carried .ensures)
+    rw (← (d .ensures), passed-no (d .result .refusal) (n .number .ensures) (t .if1 .taken)) (p .put-carried .ensures)
 
 returns-2 : tie.Need-returns-2
 unfolding decoded

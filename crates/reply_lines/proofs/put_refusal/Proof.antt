@@ -1,8 +1,8 @@
 -- Four appenders, one after the other.
+use borrow.Author.Needs.{needs}
 use Rattle.buffer.proofs.Appending.{and-then}
 use Rattle.reply_lines.specs.Lines.{refusalLine}
 use Rattle.texts.specs.Pool.{bytes}
-use borrow.Author.Needs.{needs}
 use Rattle.reply_lines.proofs.put_refusal.Statement.{statement}
 use Rattle.reply_lines.proofs.put_refusal.Tie as tie
 

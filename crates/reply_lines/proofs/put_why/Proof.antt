@@ -1,8 +1,10 @@
 -- By whether the number is one of a message; of the project's own pool message and words are the definition's.
+use borrow.Author.Needs.{needs}
+use mathlib.Core.Path.{sym, _∙_, ap}
 use Rattle.reply_lines.proofs.Cases.{why-message, why-own, words-lent}
 use Rattle.strings.proofs.Cases.{message-lent}
-use borrow.Author.Needs.{needs}
-use mathlib.Core.Path.{sym, _∙_}
+use Rattle.texts.specs.Pool.{describes}
+use Rattle.texts.specs.Rules.{message}
 use Rattle.reply_lines.proofs.put_why.Statement.{statement}
 use Rattle.reply_lines.proofs.put_why.Tie as tie
 
@@ -11,10 +13,12 @@ returns c =
     let p = c .before .before in
     let t = p .before .before .before .before in
     let d = t .before in
-    let q = d .before in
-    let a = q .before .before .before .args in
-    let own = message-lent (a .number) (a .carried) (record { whole = q .before .pool-bytes .ensures; each = q .text-starts .ensures }) in
-    rw (why-message (a .number) (a .carried) (sym (d .describes .ensures) ∙ t .if1 .taken), ← own) (p .put-message .ensures)
+    let n = d .before in
+    let q = n .before in
+    let f = q .before .before .before .args .refusal in
+    let is = n .number .ensures in
+    let own = message-lent (n .number .result) (f .carries) (f .start) (f .width) (record { whole = q .before .pool-bytes .ensures; each = q .text-starts .ensures }) in
+    rw (why-message f (n .number .result) is (sym (d .describes .ensures) ∙ t .if1 .taken), ← own) (p .put-message .ensures)
 
 returns-2 : tie.Need-returns-2
 returns-2 c =
@@ -22,10 +26,11 @@ returns-2 c =
     let w = p .before .before .before .before in
     let t = w .before in
     let d = t .before in
-    let q = d .before in
-    let a = q .before .before .before .args in
-    let own = words-lent (a .number) (record { whole = q .before .pool-bytes .ensures; each = q .text-starts .ensures }) in
-    rw (why-own (a .number) (a .carried) (sym (d .describes .ensures) ∙ t .if1 .left), ← own) (rw (w .text-code .ensures) at (p .put-text .ensures))
+    let n = d .before in
+    let q = n .before in
+    let f = q .before .before .before .args .refusal in
+    let own = words-lent (n .number .result) (record { whole = q .before .pool-bytes .ensures; each = q .text-starts .ensures }) in
+    rw (why-own f (n .number .result) (n .number .ensures) (sym (d .describes .ensures) ∙ t .if1 .left), ← own) (rw (w .text-code .ensures) at (p .put-text .ensures))
 
 pub put-why-spec : {M : Type 1} → statement M
 put-why-spec =
@@ -33,6 +38,8 @@ put-why-spec =
     (tie.spec
     (λ c κs. search needs)
     (λ c κs. search needs)
+    (λ c κs. search needs)
+    (λ c. search needs)
     (λ c κs. search needs)
     (λ c. search needs)
     (λ c. search needs)

@@ -25,6 +25,9 @@ wrapping-add-u64-requires c κs = search needs
 say-field-requires-3 : tie.Need-say-field-requires-3 Inv-loop μ-loop
 say-field-requires-3 c κs = search needs
 
+say-named-requires : tie.Need-say-named-requires Inv-loop μ-loop
+say-named-requires c κs = search needs
+
 wrapping-add-u64-requires-2 : tie.Need-wrapping-add-u64-requires-2 Inv-loop μ-loop
 wrapping-add-u64-requires-2 c κs = search needs
 
@@ -54,6 +57,7 @@ say-widths-spec =
     say-field-requires-2
     wrapping-add-u64-requires
     say-field-requires-3
+    say-named-requires
     wrapping-add-u64-requires-2
     wrapping-add-u64-requires-3
     add-width

@@ -6,9 +6,12 @@ use Rattle.number.proofs.NumberState.finish.Tie as tie
 end-reason-requires : tie.Need-end-reason-requires
 end-reason-requires c κs = search needs
 
+carrying-requires : tie.Need-carrying-requires
+carrying-requires c κs = search needs
+
 returns : tie.Need-returns
-returns c = rw (c .end-reason .ensures)
+returns c = rw (c .carrying .ensures, c .before .end-reason .ensures)
 
 pub finish-spec : {M : Type 1} → statement M
 finish-spec =
-    tie.close (tie.spec end-reason-requires returns)
+    tie.close (tie.spec end-reason-requires carrying-requires returns)

@@ -1,0 +1,34 @@
+"""What our answers have and the Rust's have not: it is taken out of them, so that the rest can be held to the Rust's, and is itself held to a second reading of
+01 and 02 (tools/expected).
+
+#105: a refusal by 1 names its field. `esr records` says `refused 1 carried=0xH start=S width=W MESSAGE`, and the message ends with `, bits S..E`."""
+import sys
+from importlib.machinery import SourceFileLoader
+from importlib.util import module_from_spec, spec_from_loader
+from pathlib import Path
+
+sys.dont_write_bytecode = True
+expected = module_from_spec(spec_from_loader("expected", SourceFileLoader("expected", str(Path(__file__).resolve().parent.parent / "tools" / "expected"))))
+expected.__loader__.exec_module(expected)
+
+RECORDS, LISTING = b"refused 1 ", b"refused 1: "
+
+
+def without_bits(line, refusal):
+    """The line of a refusal by 1 in the Rust's form; one that does not have just the bits of the second reading says so, and is then no line of the Rust's."""
+    ended = b", bits %d..%d\n" % (refusal.start, refusal.start + refusal.width)
+    named = b" start=%d width=%d " % (refusal.start, refusal.width) if line.startswith(RECORDS) else b" "
+    if not line.endswith(ended) or named not in line:
+        return line[:-1] + b" (a second reading has start %d and width %d)\n" % (refusal.start, refusal.width)
+    return line.replace(named, b" ", 1)[: -len(ended)] + b"\n"
+
+
+def in_rusts_form(lines):
+    """The lines of `esr records` or `esr listing`, each ended by a line feed, without what they have beyond the Rust's."""
+    value = None
+    for line in lines:
+        if line.startswith(b"> 0x"):
+            value = int(line[4:], 16)
+        elif line.startswith((RECORDS, LISTING)):
+            line = without_bits(line, expected.refusal_of(value) or expected.Refused(0))
+        yield line
