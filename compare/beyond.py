@@ -1,7 +1,8 @@
 """What our answers have and the Rust's have not: it is taken out of them, so that the rest can be held to the Rust's, and is itself held to a second reading of
 01 and 02 (tools/expected).
 
-#105: a refusal by 1 names its field. `esr records` says `refused 1 carried=0xH start=S width=W MESSAGE`, and the message ends with `, bits S..E`."""
+#105: a refusal by 1 names its field. `esr records` says `refused 1 carried=0xH start=S width=W MESSAGE`, and the message ends with `, bits S..E`.
+#109: a record has a mark, the last column of its line in `esr records`."""
 import sys
 from importlib.machinery import SourceFileLoader
 from importlib.util import module_from_spec, spec_from_loader
@@ -12,6 +13,7 @@ expected = module_from_spec(spec_from_loader("expected", SourceFileLoader("expec
 expected.__loader__.exec_module(expected)
 
 RECORDS, LISTING = b"refused 1 ", b"refused 1: "
+RECORD = b"0|", b"1|"
 
 
 def without_bits(line, refusal):
@@ -23,12 +25,27 @@ def without_bits(line, refusal):
     return line.replace(named, b" ", 1)[: -len(ended)] + b"\n"
 
 
+def marks_of(value):
+    """The marks of the records of a value, by the second reading."""
+    if expected.refusal_of(value) is None:
+        yield from (part.mark.encode() for *_, part in expected.marked_records(value))
+
+
+def without_mark(line, mark):
+    """The line of a record in the Rust's form; one that does not end with just this mark says so, and is then no line of the Rust's."""
+    ended = b"|%b\n" % mark
+    return line[: -len(ended)] + b"\n" if line.endswith(ended) else line[:-1] + b" (a second reading has the mark '%b')\n" % mark
+
+
 def in_rusts_form(lines):
     """The lines of `esr records` or `esr listing`, each ended by a line feed, without what they have beyond the Rust's."""
-    value = None
+    value, marks = None, iter(())
     for line in lines:
         if line.startswith(b"> 0x"):
             value = int(line[4:], 16)
+            marks = marks_of(value)
         elif line.startswith((RECORDS, LISTING)):
             line = without_bits(line, expected.refusal_of(value) or expected.Refused(0))
+        elif line.startswith(RECORD):
+            line = without_mark(line, next(marks, b""))
         yield line

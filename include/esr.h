@@ -50,14 +50,23 @@ enum {
 /* An array of so many bytes holds the listing of any value. This is proved. */
 #define ESR_LISTING_MAX 1053
 
-/* A field of a value: bits start .. start + width, shifted down. name, long_name and text are codes, for esr_text; the code 0 is none. */
+/* Whether a field was checked: the member mark of a record. What is said of a checked and of a coded field is proved of every accepted value. */
+enum {
+    ESR_MARK_FREE = 0,     /* nothing is asked of it */
+    ESR_MARK_CODED = 1,    /* on its list, or the value would have been refused by one of 2 to 7 */
+    ESR_MARK_CHECKED = 2,  /* reserved, and 0, or the value would have been refused by 1 */
+    ESR_MARK_UNCHECKED = 3 /* reserved, and may hold anything: bits 11 and 12 of an abort without SET */
+};
+
+/* A field of a value: bits start .. start + width, shifted down. name, text and long_name are codes, for esr_text; the code 0 is none. */
 typedef struct esr_record {
     uint64_t value;
     uint16_t name;
-    uint16_t long_name;
     uint16_t text;
+    uint8_t long_name;
     uint8_t start;
     uint8_t width;
+    uint8_t mark;
 } esr_record;
 
 /* How many elements of the caller's array, from its front, now hold the answer; 0 on a refusal. */
@@ -139,8 +148,8 @@ esr_entry esr_read_entry(const uint8_t *block, size_t length);
 /* What the archive takes for granted of the compiler. A false line does not compile. */
 #define ESR_HOLDS(name, fact) typedef char esr_holds_##name[(fact) ? 1 : -1]
 ESR_HOLDS(record, sizeof(esr_record) == 16 && offsetof(esr_record, value) == 0);
-ESR_HOLDS(record_names, offsetof(esr_record, name) == 8 && offsetof(esr_record, long_name) == 10 && offsetof(esr_record, text) == 12);
-ESR_HOLDS(record_bits, offsetof(esr_record, start) == 14 && offsetof(esr_record, width) == 15);
+ESR_HOLDS(record_codes, offsetof(esr_record, name) == 8 && offsetof(esr_record, text) == 10 && offsetof(esr_record, long_name) == 12);
+ESR_HOLDS(record_bits, offsetof(esr_record, start) == 13 && offsetof(esr_record, width) == 14 && offsetof(esr_record, mark) == 15);
 ESR_HOLDS(filled, sizeof(esr_filled) == 24 && offsetof(esr_filled, count) == 8 && offsetof(esr_filled, refusal) == 16);
 ESR_HOLDS(filled_bits, offsetof(esr_filled, start) == 17 && offsetof(esr_filled, width) == 18);
 ESR_HOLDS(number, sizeof(esr_number) == 24 && offsetof(esr_number, carried) == 8 && offsetof(esr_number, refusal) == 16);
@@ -150,7 +159,7 @@ ESR_HOLDS(entry_rest, offsetof(esr_entry, body_length) == 24 && offsetof(esr_ent
 ESR_HOLDS(entry_bits, offsetof(esr_entry, start) == 35 && offsetof(esr_entry, width) == 36);
 #undef ESR_HOLDS
 #if defined(__BYTE_ORDER__) && __BYTE_ORDER__ != __ORDER_LITTLE_ENDIAN__
-#error "a slot holds name, long_name, text, start and width as one 64-bit word, whose bytes lie in this order on a little-endian machine alone"
+#error "a slot holds name, text, long_name, start, width and mark as one 64-bit word, whose bytes lie in this order on a little-endian machine alone"
 #endif
 
 #ifdef __cplusplus

@@ -176,26 +176,28 @@ static int named(uint16_t code, const char *words) {
     return says(write_text, code, 0, words);
 }
 
-static int is(size_t slot, const char *name, const char *long_name, const char *words, unsigned start, unsigned width, uint64_t value) {
+static int is(size_t slot, const char *name, const char *long_name, const char *words, unsigned start, unsigned width, uint64_t value, uint8_t mark) {
     const esr_record *record = &slots.records[slot];
-    return record->start == start && record->width == width && record->value == value && named(record->name, name) &&
+    return record->start == start && record->width == width && record->value == value && record->mark == mark && named(record->name, name) &&
            named(record->long_name, long_name) && named(record->text, words);
 }
 
-/* Every member of a record, by the value that 01 lists in full and by one with distinct numbers in most fields. */
+/* Every member of a record, by the value that 01 lists in full, by one with distinct numbers in most fields, and by an abort with all four marks. */
 static void check_members(void) {
     HOLDS(esr_decode(0x56000001, slots.records, ROOM).count == 7);
-    HOLDS(is(0, "RES0", "Reserved", "", 37, 27, 0));
-    HOLDS(is(1, "ISS2", "", "", 32, 5, 0));
-    HOLDS(is(2, "EC", "Exception Class", "SVC instruction execution in AArch64 state", 26, 6, 0x15));
-    HOLDS(is(3, "IL", "Instruction Length", "32-bit instruction trapped", 25, 1, 1));
-    HOLDS(is(4, "ISS", "Instruction Specific Syndrome", "", 0, 25, 1));
-    HOLDS(is(5, "RES0", "Reserved", "", 16, 9, 0));
-    HOLDS(is(6, "imm16", "Value of the immediate field", "", 0, 16, 1));
+    HOLDS(is(0, "RES0", "Reserved", "", 37, 27, 0, ESR_MARK_CHECKED));
+    HOLDS(is(1, "ISS2", "", "", 32, 5, 0, ESR_MARK_FREE));
+    HOLDS(is(2, "EC", "Exception Class", "SVC instruction execution in AArch64 state", 26, 6, 0x15, ESR_MARK_CODED));
+    HOLDS(is(3, "IL", "Instruction Length", "32-bit instruction trapped", 25, 1, 1, ESR_MARK_FREE));
+    HOLDS(is(4, "ISS", "Instruction Specific Syndrome", "", 0, 25, 1, ESR_MARK_FREE));
+    HOLDS(is(5, "RES0", "Reserved", "", 16, 9, 0, ESR_MARK_CHECKED));
+    HOLDS(is(6, "imm16", "Value of the immediate field", "", 0, 16, 1, ESR_MARK_FREE));
     HOLDS(esr_decode(0x1F56ABCDEF, slots.records, ROOM).refusal == ESR_INVALID_RES0);
     HOLDS(esr_decode(0x1F5600CDEF, slots.records, ROOM).count == 7);
-    HOLDS(is(1, "ISS2", "", "", 32, 5, 0x1F));
-    HOLDS(is(6, "imm16", "Value of the immediate field", "", 0, 16, 0xCDEF));
+    HOLDS(is(1, "ISS2", "", "", 32, 5, 0x1F, ESR_MARK_FREE));
+    HOLDS(is(6, "imm16", "Value of the immediate field", "", 0, 16, 0xCDEF, ESR_MARK_FREE));
+    HOLDS(esr_decode(0x90001804, slots.records, ROOM).count == 18);
+    HOLDS(is(11, "RES0", "Reserved", "", 11, 2, 3, ESR_MARK_UNCHECKED));
 }
 
 static void check_texts(void) {

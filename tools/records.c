@@ -17,6 +17,9 @@ static void say_text(uint16_t code) {
     }
 }
 
+/* By the number of the mark. */
+static const char *const marks[] = {"|free\n", "|coded\n", "|checked\n", "|unchecked\n"};
+
 static void say_record(const esr_record *record, size_t index) {
     say(index < TOP_RECORDS ? "0|" : "1|");
     say_text(record->name);
@@ -30,7 +33,7 @@ static void say_record(const esr_record *record, size_t index) {
     say_number(record->value, 16);
     say("|");
     say_text(record->text);
-    say("\n");
+    say(record->mark <= ESR_MARK_UNCHECKED ? marks[record->mark] : "|no mark\n");
 }
 
 static void say_refusal(esr_filled answer) {

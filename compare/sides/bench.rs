@@ -22,7 +22,7 @@ use std::time::Instant;
 
 const INPUTS: usize = 4096;
 const TIMES: usize = 200;
-const EMPTY: capi::Record = capi::Record { value: 0, name: 0, long: 0, text: 0, start: 0, width: 0 };
+const EMPTY: capi::Record = capi::Record { value: 0, name: 0, text: 0, long: 0, start: 0, width: 0, mark: 0 };
 
 type Fields = Result<Vec<FieldInfo>, DecodeError>;
 
@@ -103,7 +103,7 @@ fn our_decode(values: &[u64]) -> u64 {
         let sum = sum.wrapping_add(answer.carried).wrapping_add(answer.refusal.into());
         slots[..answer.count].iter().fold(sum, |sum, slot| {
             let codes = u64::from(slot.name) + u64::from(slot.long) + u64::from(slot.text);
-            let bits = u64::from(slot.start) + u64::from(slot.width);
+            let bits = u64::from(slot.start) + u64::from(slot.width) + u64::from(slot.mark);
             sum.wrapping_add(slot.value).wrapping_add(codes).wrapping_add(bits)
         })
     })

@@ -8,10 +8,11 @@ pub const SLOTS: usize = 19;
 pub struct Record {
     pub value: u64,
     pub name: u16,
-    pub long: u16,
     pub text: u16,
+    pub long: u8,
     pub start: u8,
     pub width: u8,
+    pub mark: u8,
 }
 
 /// How many slots or bytes of the lent memory were filled, or why none was.

@@ -90,7 +90,7 @@ impl Side for Ours {
             return (state, false);
         }
         for (at, slot) in slots[..answer.count].iter().enumerate() {
-            let strings = [slot.name, slot.long, slot.text].map(|code| self.0[usize::from(code)]);
+            let strings = [slot.name, slot.long.into(), slot.text].map(|code| self.0[usize::from(code)]);
             let depth = u64::from(at >= TOP);
             state = mix(state, digest::record(depth, strings, slot.start.into(), slot.width.into(), slot.value));
         }
@@ -105,7 +105,7 @@ impl Side for Ours {
             return writeln!(out, "refused {} carried={:#x}", answer.refusal, answer.carried);
         }
         for (at, slot) in slots[..answer.count].iter().enumerate() {
-            let [name, long, text] = [slot.name, slot.long, slot.text]
+            let [name, long, text] = [slot.name, slot.long.into(), slot.text]
                 .map(|code| said(code).map_or("-".into(), |text| String::from_utf8_lossy(&text).into_owned()));
             let capi::Record { value, start, width, .. } = slot;
             writeln!(out, "{}|{name}|{long}|{start}|{width}|{value:#x}|{text}", u8::from(at >= TOP))?;

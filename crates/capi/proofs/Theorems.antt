@@ -15,7 +15,9 @@ use Rattle.esr.specs.Decode.{answerOf}
 use Rattle.written.specs.Outcomes.{Outcome, refused, text, refusal, answered, left}
 use Rattle.written.specs.declared.Written.{Written}
 use Rattle.records.specs.Bits.{fieldOf}
+use Rattle.records.specs.Kinds.{markNumber}
 use Rattle.records.specs.declared.Record.{Record}
+use Rattle.records.proofs.ByMark.{mark-small}
 use Rattle.refusals.specs.Refusals.{carrying, noRefusal, passed, reasonNumber}
 use Rattle.refusals.specs.declared.Reason.the-variants.{ShortBuffer}
 use Rattle.capi.specs.Answers.{filledOf, entryAnswer}
@@ -55,7 +57,7 @@ filled-kept (text t) before = by-room (leb (length t) (length before))
 
 -- A slot.
 
-module _ (x : Record) (name : x .name < 2 ^ 16) (long : x .long < 2 ^ 16) (text : x .text < 2 ^ 16) (start : x .start < 2 ^ 8) (width : x .width < 2 ^ 8) where
+module _ (x : Record) (name : x .name < 2 ^ 16) (text : x .text < 2 ^ 16) (long : x .long < 2 ^ 8) (start : x .start < 2 ^ 8) (width : x .width < 2 ^ 8) where
   abbrev word : ℕ
   word = getD (wordsOf x) 1 0
 
@@ -63,21 +65,25 @@ module _ (x : Record) (name : x .name < 2 ^ 16) (long : x .long < 2 ^ 16) (text 
   unfolding fieldOf wordsOf
   name-back = omega arith
 
-  pub long-back : fieldOf word 16 16 ≡ x .long
-  unfolding fieldOf wordsOf
-  long-back = omega arith
-
-  pub text-back : fieldOf word 32 16 ≡ x .text
+  pub text-back : fieldOf word 16 16 ≡ x .text
   unfolding fieldOf wordsOf
   text-back = omega arith
 
-  pub start-back : fieldOf word 48 8 ≡ x .start
+  pub long-back : fieldOf word 32 8 ≡ x .long
+  unfolding fieldOf wordsOf
+  long-back = omega arith
+
+  pub start-back : fieldOf word 40 8 ≡ x .start
   unfolding fieldOf wordsOf
   start-back = omega arith
 
-  pub width-back : fieldOf word 56 8 ≡ x .width
+  pub width-back : fieldOf word 48 8 ≡ x .width
   unfolding fieldOf wordsOf
   width-back = omega arith
+
+  pub mark-back : fieldOf word 56 8 ≡ markNumber (x .mark)
+  unfolding fieldOf wordsOf
+  mark-back = omega (arith, mark-small (x .mark))
 
 -- The body: that many bytes of the block, from there on.
 

@@ -3,6 +3,7 @@ use Prim.Native.Nat.{ℕ, _+_, _*_, _^_}
 use mathlib.Core.Bool.{cond}
 use mathlib.Core.List.{List, [], _∷_, map}
 use Rattle.esr.specs.Decode.{answerOf}
+use Rattle.records.specs.Kinds.{markNumber}
 use Rattle.records.specs.Sets.{listOf}
 use Rattle.records.specs.declared.Record.{Record}
 use Rattle.records.specs.declared.Records.{Records}
@@ -10,11 +11,11 @@ use Rattle.refusals.specs.Refusals.{passed}
 use Rattle.capi.specs.Buffers.{refusing, filling}
 use Rattle.capi.specs.declared.Filled.{Filled}
 
--- the value; then from low bits to high the codes of name, long name and text, 16 bits each, start and width, 8 bits each
+-- the value; then from low bits to high the codes of name and text, 16 bits each, and the code of the long name, start, width and the mark's number, 8 bits each
 unfoldable pub wordsOf : Record → List ℕ
 wordsOf x =
     x .value ∷
-    (x .name + x .long * 2 ^ 16 + x .text * 2 ^ 32 + x .start * 2 ^ 48 + x .width * 2 ^ 56) ∷
+    (x .name + x .text * 2 ^ 16 + x .long * 2 ^ 32 + x .start * 2 ^ 40 + x .width * 2 ^ 48 + markNumber (x .mark) * 2 ^ 56) ∷
     []
 
 -- those of the records that a set counts, in order

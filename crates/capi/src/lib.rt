@@ -77,12 +77,10 @@ fn filled_by_text(written: Written) -> Filled
 fn words(item: Record) -> [u64; 2]
     ensures { λ r. ⌜ r ≡ wordsOf item ⌝ }
 {
-    let names = item.name as u64 + item.long as u64 * 0x1_0000;
-    let bits = item.start as u64 + item.width as u64 * 0x100;
-    [
-        item.value,
-        names + item.text as u64 * 0x1_0000_0000 + bits * 0x1_0000_0000_0000,
-    ]
+    let mark = item.mark;
+    let codes = item.name as u64 + item.text as u64 * 0x1_0000 + item.long as u64 * 0x1_0000_0000;
+    let bits = item.start as u64 + item.width as u64 * 0x100 + mark.number() as u64 * 0x1_0000;
+    [item.value, codes + bits * 0x100_0000_0000]
 }
 
 fn put_records(records: Records, slots: &mut [[u64; 2]])

@@ -21,7 +21,7 @@ use Rattle.records.specs.Bits.{fieldOf}
 use Rattle.records.specs.Rows.{rowKind}
 use Rattle.records.specs.Kinds.{Kind, Free, Unchecked, Checked, Coded, reasonOf, kindOf}
 use Rattle.records.specs.declared.Row.{Row}
-use Rattle.records.proofs.MetByKind.{not-res0}
+use Rattle.records.proofs.ByMark.{not-res0}
 use Rattle.tables.specs.Shape.{Test, Condition, Line, Table}
 use Rattle.tables.specs.Applying.{isCheck}
 use Rattle.tables.specs.Tables.{reserved, class, Served, layouts, res0, wf, mcr, mcrr, ldc, sve, ld64b, bti, pauth, hvc, brk, fp, breakpoint, softwareStep, watchpoint, instructionAbort, dataAbort, serror, undivided}
@@ -42,7 +42,7 @@ use Rattle.reading.proofs.Reading.{refused-refusing}
 abbrev just : ℕ → ℕ → ℕ → Test → Bool
 just s w x t = eqb (t .start) s && (eqb (t .width) w && (member x (t .among) && every (λ i y. eqb y x) 0 (t .among)))
 
-abbrev some : {A : Type 0} → (A → Bool) → List A → Bool
+abbrev pub some : {A : Type 0} → (A → Bool) → List A → Bool
 some p [] = false
 some p (x ∷ xs) = p x || some p xs
 
@@ -57,7 +57,7 @@ abbrev clear : ℕ → List Condition → Bool
 clear k cs = some (clears k) cs
 
 -- the number by which a kind refuses
-abbrev kindNumber : Kind → ℕ
+abbrev pub kindNumber : Kind → ℕ
 kindNumber k = reasonNumber (reasonOf k)
 
 abbrev at : ℕ → ℕ → Row → Bool
@@ -173,7 +173,7 @@ bit-clear v k h = by (fieldOf v k 1) (bits-of v k 1)
     by (suc zero) o = absurd (h o)
     by (suc (suc x)) o = let f : suc (suc x) < 2 = o .fits in absurd (omega arith)
 
-some-mem : {A : Type 0} (p : A → Bool) (xs : List A) → T (some p xs) → (x : A) × List·Memᴰ x xs × T (p x)
+pub some-mem : {A : Type 0} (p : A → Bool) (xs : List A) → T (some p xs) → (x : A) × List·Memᴰ x xs × T (p x)
 some-mem p [] t = absurd t
 some-mem p (x ∷ xs) t =
     either (p x) (some p xs) t (λ u. (x, List·Memᴰ·head refl, u))
@@ -214,7 +214,7 @@ unmet-bits : {v : ℕ} {row : Row} {f : Refusal} → Unmet v row f → HasBits v
 unmet-bits (notZero o k e b h) = o
 unmet-bits (notListed o k b h) = o
 
-unmet-kind : {v : ℕ} {row : Row} {f : Refusal} → Unmet v row f → kindNumber (rowKind row) ≡ refusalNumber f
+pub unmet-kind : {v : ℕ} {row : Row} {f : Refusal} → Unmet v row f → kindNumber (rowKind row) ≡ refusalNumber f
 unmet-kind (notZero o k e b h) = ap kindNumber k ∙ sym (ap reasonNumber e)
 unmet-kind (notListed o k b h) = ap kindNumber k
 
@@ -360,13 +360,13 @@ ordered-among row rows (s ∷ ss) cs (check a o) m = by a (List·Memᴰ·cases-c
     by a (inr k) rest = rest k
 ordered-among row rows (s ∷ ss) cs (away h o) m = ordered-among row rows ss cs o m
 
-record Of (v : ℕ) (ls : List Line) (row : Row) : Type 0 where
-  line : Line
-  among : List·Memᴰ line ls
-  meets : Meets v (line .conditions)
-  its : row ≡ line .row
+pub record Of (v : ℕ) (ls : List Line) (row : Row) : Type 0 where
+  pub line : Line
+  pub among : List·Memᴰ line ls
+  pub meets : Meets v (line .conditions)
+  pub its : row ≡ line .row
 
-applying-line : (v : ℕ) (row : Row) (ls : List Line) (rs : List Row) → Applying v ls rs → List·Memᴰ row rs → Of v ls row
+pub applying-line : (v : ℕ) (row : Row) (ls : List Line) (rs : List Row) → Applying v ls rs → List·Memᴰ row rs → Of v ls row
 applying-line v row [] rs none m = absurd (List·Memᴰ·not-nil m)
 applying-line v row (l ∷ ls) rs (there c a) m = by c (List·Memᴰ·cases-cons m) (applying-line v row ls _ a)
   where

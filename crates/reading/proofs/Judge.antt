@@ -16,7 +16,8 @@ use Rattle.refusals.proofs.Theorems.{by-parts}
 use Rattle.refusals.specs.declared.Refusal.{Refusal}
 use Rattle.records.specs.Bits.{fieldOf}
 use Rattle.records.specs.Rows.{valueIn, recordOf, meets, refusalOf, rowKind}
-use Rattle.records.specs.Kinds.{Kind, Free, Unchecked, Checked, Coded, allows, reasonOf, named}
+use Rattle.records.specs.Kinds.{Kind, Free, Unchecked, Checked, Coded, markOf, allows, reasonOf, named}
+use Rattle.records.specs.declared.Mark.{Mark}
 use Rattle.records.specs.declared.Record.{Record}
 use Rattle.records.specs.declared.Row.{Row}
 use Rattle.esr.specs.Decode.{firstFailure}
@@ -51,7 +52,7 @@ module _ (v : ℕ) (row : Row) where
   met-meets : Met v row → T (meets v row)
   met-meets m = allowed-meets (m .value) (bits-is (m .has)) (m .allowed)
 
-  meets-met : T (meets v row) → Met v row
+  pub meets-met : T (meets v row) → Met v row
   meets-met t = record { value = valueIn v row; has = bits-of v (row .start) (row .width); allowed = meets-allowed t }
 
   -- a row that is not met refuses for its reason, carrying its field
@@ -70,7 +71,7 @@ module _ (v : ℕ) (row : Row) where
         (ap (λ (x : Kind). named x (row .width)) k ∙ sym (b .1)) (ap reasonOf k),
   )
 
-  fails-unmet : meets v row ≡ false → Unmet v row (refusalOf v row)
+  pub fails-unmet : meets v row ≡ false → Unmet v row (refusalOf v row)
   unfolding meets refusalOf
   fails-unmet e = by (rowKind row) refl e
     where
@@ -134,14 +135,14 @@ first-number v f (r ∷ rs) t (later m k) = first-number v f rs (λ x n. t x (Li
 
 -- The record of a row.
 
-unfoldable made : ℕ → ℕ → ℕ → ℕ → ℕ → ℕ → Record
-made v n l t s w = record { value = v; name = n; long = l; text = t; start = s; width = w }
+unfoldable made : ℕ → ℕ → ℕ → ℕ → ℕ → ℕ → Mark → Record
+made v n t l s w m = record { value = v; name = n; text = t; long = l; start = s; width = w; mark = m }
 
-eta : (x : Record) → x ≡ made (x .value) (x .name) (x .long) (x .text) (x .start) (x .width)
+eta : (x : Record) → x ≡ made (x .value) (x .name) (x .text) (x .long) (x .start) (x .width) (x .mark)
 unfolding made
 eta x = refl
 
-eta-of : (v : ℕ) (row : Row) → made (valueIn v row) (row .name) (row .long) (textCode (row .rule) (valueIn v row)) (row .start) (row .width) ≡ recordOf v row
+eta-of : (v : ℕ) (row : Row) → made (valueIn v row) (row .name) (textCode (row .rule) (valueIn v row)) (row .long) (row .start) (row .width) (markOf (rowKind row)) ≡ recordOf v row
 unfolding made recordOf
 eta-of v row = refl
 
@@ -151,7 +152,7 @@ unfolding textCode
 holds-is v row x h =
     let e : x .value ≡ valueIn v row = bits-is (h .has) in
     let t : x .text ≡ textCode (row .rule) (valueIn v row) = by (describes (row .rule) (x .value)) refl ∙ ap (textCode (row .rule)) e in
-    cc (eta x, eta-of v row, h .start, h .width, h .name, h .long)
+    cc (eta x, eta-of v row, h .start, h .width, h .name, h .long, h .mark)
   where
     by : (b : Bool) → describes (row .rule) (x .value) ≡ b → x .text ≡ textCode (row .rule) (x .value)
     by true e = h .described (describes-listed (row .rule) (x .value) (is-true e)) ∙ simp e
@@ -172,6 +173,7 @@ holds-of v row t =
       width = refl;
       name = refl;
       long = refl;
+      mark = refl;
       has = bits-of v (row .start) (row .width);
       described = λ l. simp (true-is (describes (row .rule) (valueIn v row)) (listed-describes l));
       undescribed = λ n. simp (false-is (describes (row .rule) (valueIn v row)) (λ t. n (describes-listed (row .rule) (valueIn v row) t)));
@@ -207,5 +209,5 @@ module _ (v : ℕ) where
   unfolding recordOf
   records-iss [] t = refl
   records-iss (r ∷ rs) t =
-      ap₂ (λ (n : ℕ) (ys : List Record). record { value = n; name = r .name; long = r .long; text = textCode (r .rule) n; start = r .start; width = r .width } ∷ ys)
+      ap₂ (λ (n : ℕ) (ys : List Record). record { value = n; name = r .name; text = textCode (r .rule) n; long = r .long; start = r .start; width = r .width; mark = markOf (rowKind r) } ∷ ys)
       (in-iss r (t r (List·Memᴰ·head refl))) (records-iss rs (λ x m. t x (List·Memᴰ·tail m)))

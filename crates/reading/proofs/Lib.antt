@@ -12,3 +12,4 @@ pub mod Torn
 pub mod ShutOut
 pub mod Given
 pub mod Named
+pub mod Marks

@@ -9,7 +9,7 @@ use Rattle.refusals.specs.declared.Reason.the-variants.{InvalidRes0}
 use Rattle.refusals.specs.declared.Refusal.{Refusal}
 use Rattle.records.specs.Kinds.{Coded}
 use Rattle.records.specs.declared.Row.{Row}
-use Rattle.records.proofs.MetByKind.{not-res0}
+use Rattle.records.proofs.ByMark.{not-res0}
 use Rattle.esr.specs.Promises.{Decoded}
 use Rattle.esr.specs.declared.Answer.{Answer}
 use Rattle.reading.specs.Refusing.{Unmet, notZero, notListed, First, here, later, Refusing}

@@ -37,7 +37,7 @@ rowsOf s esr = rowsFor (s .table) (issOf esr)
 abbrev pub allRows : Served → ℕ → List Row
 allRows s esr = topRows (s .table .issRule) ++ rowsOf s esr
 
-abbrev allChecks : Served → ℕ → List Row
+abbrev pub allChecks : Served → ℕ → List Row
 allChecks s esr = reserved ∷ class ∷ checksFor (s .table) (issOf esr)
 
 module _ (esr : ℕ) where
@@ -140,7 +140,7 @@ module _ (esr : ℕ) where
           held = hold-all-of esr (allRows s esr) p;
         }
 
-    own-checks : Checks esr (allChecks s esr)
+    pub own-checks : Checks esr (allChecks s esr)
     unfolding rowsFor checksFor
     own-checks = served k (applying-of esr 0 (s .table .lines) (fitted-lines {s = s} (k .layout))) (ordered-of (rowsOf s esr) (s .table .order))
 

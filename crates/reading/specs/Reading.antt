@@ -7,7 +7,7 @@ use mathlib.Core.List.{List, [], _∷_, _++_, List·Memᴰ}
 use mathlib.Core.Path.{_≡_}
 use Rattle.texts.specs.Rules.{_means_}
 use Rattle.texts.specs.Pool.{ruleAt, firstOf}
-use Rattle.records.specs.Kinds.{Kind, Free, Unchecked, Checked, Coded}
+use Rattle.records.specs.Kinds.{Kind, Free, Unchecked, Checked, Coded, markOf}
 use Rattle.records.specs.declared.Record.{Record}
 use Rattle.records.specs.Rows.{rowKind}
 use Rattle.records.specs.declared.Row.{Row}
@@ -59,12 +59,13 @@ Allowed (Coded reason) rule value = Listed rule value
 Allowed Checked rule value = value ≡ 0
 Allowed Unchecked rule value = Unit {0}
 
--- a record holds its row of a value: start, width and names of the row, the value's own bits, the code of what the rule says of them
+-- a record holds its row of a value: start, width, names and mark of the row, the value's own bits, the code of what the rule says of them
 pub record Holds (v : ℕ) (row : Row) (x : Record) : Type 0 where
   pub start : x .start ≡ row .start
   pub width : x .width ≡ row .width
   pub name : x .name ≡ row .name
   pub long : x .long ≡ row .long
+  pub mark : x .mark ≡ markOf (rowKind row)
   pub has : HasBits v (row .start) (row .width) (x .value)
   pub described : Listed (row .rule) (x .value) → x .text ≡ firstOf (row .rule) + x .value
   pub undescribed : (Listed (row .rule) (x .value) → ⊥) → x .text ≡ 0

@@ -6,6 +6,8 @@ use lib.Dec.{eqb, ltb}
 use Rattle.digits.specs.Digits.{digitsOf, numeral}
 use Rattle.buffer.specs.InOrder.{inOrder}
 use Rattle.records.specs.Sets.{listOf}
+use Rattle.records.specs.declared.Mark.{Mark}
+use Rattle.records.specs.declared.Mark.the-variants.{Free, Coded, Checked, Unchecked}
 use Rattle.records.specs.declared.Record.{Record}
 use Rattle.records.specs.declared.Records.{Records}
 use Rattle.texts.specs.Pool.{bytes, bytesAt}
@@ -18,8 +20,8 @@ byteText index byte = bytes " " ++ digitsOf 16 2 byte
 unfoldable pub bodyLine : List ℕ → List ℕ
 bodyLine body = bytes "body" ++ inOrder byteText body ++ bytes "\n"
 
--- Records for machines, a line for each: DEPTH|NAME|LONG NAME|START|WIDTH|0xVALUE|TEXT, with `-` for a long name or a text that a record does
--- not have.
+-- Records for machines, a line for each: DEPTH|NAME|LONG NAME|START|WIDTH|0xVALUE|TEXT|MARK, with `-` for a long name or a text that a record
+-- does not have.
 
 -- ISS's own records are those from the sixth on
 unfoldable pub depthAt : ℕ → List ℕ
@@ -36,8 +38,15 @@ numberPart n = bytes "|" ++ numeral 10 n
 unfoldable pub bitsPart : Record → List ℕ
 bitsPart r = numberPart (r .start) ++ numberPart (r .width) ++ bytes "|0x" ++ numeral 16 (r .value)
 
+-- the mark ends the line
+unfoldable pub markPart : Mark → List ℕ
+markPart Free = bytes "|free\n"
+markPart Coded = bytes "|coded\n"
+markPart Checked = bytes "|checked\n"
+markPart Unchecked = bytes "|unchecked\n"
+
 unfoldable pub recordLine : ℕ → Record → List ℕ
-recordLine index r = depthAt index ++ textPart (r .name) ++ textPart (r .long) ++ bitsPart r ++ textPart (r .text) ++ bytes "\n"
+recordLine index r = depthAt index ++ textPart (r .name) ++ textPart (r .long) ++ bitsPart r ++ textPart (r .text) ++ markPart (r .mark)
 
 -- the lines of the records that a set counts
 abbrev pub recordLines : Records → List ℕ

@@ -2,13 +2,14 @@
 ghost use Rattle.buffer.specs.Appending.{Appends};
 ghost use Rattle.buffer.specs.InOrder.{inOrder};
 ghost use Rattle.buffer.specs.Lent.{Lent};
-ghost use Rattle.record_lines.specs.Lines.{bitsPart, byteText, depthAt, numberPart, recordLine, textPart};
+ghost use Rattle.record_lines.specs.Lines.{bitsPart, byteText, depthAt, markPart, numberPart, recordLine, textPart};
 ghost use Rattle.record_lines.specs.Promises.{BodyLine, RecordLines};
 use buffer::put_bytes;
 use buffer::put_text;
 use digits::Base;
 use digits::put_digits;
 use digits::put_number;
+use records::Mark;
 use records::Record;
 use records::Records;
 
@@ -73,7 +74,18 @@ fn put_bits(buf: &mut [u8], at: usize, item: Record) -> usize
     put_number(buf, next, Base::Hex, item.value)
 }
 
-// DEPTH|NAME|LONG NAME|START|WIDTH|0xVALUE|TEXT
+fn put_mark(buf: &mut [u8], at: usize, mark: Mark) -> usize
+    ensures { λ r. ⌜ Appends (markPart mark) (at, now (buf .entry)) (r, now (buf .exit)) ⌝ }
+{
+    match mark {
+        Mark::Free => put_bytes(buf, at, b"|free\n"),
+        Mark::Coded => put_bytes(buf, at, b"|coded\n"),
+        Mark::Checked => put_bytes(buf, at, b"|checked\n"),
+        Mark::Unchecked => put_bytes(buf, at, b"|unchecked\n"),
+    }
+}
+
+// DEPTH|NAME|LONG NAME|START|WIDTH|0xVALUE|TEXT|MARK
 fn put_record(
     buf: &mut [u8],
     at: usize,
@@ -87,10 +99,11 @@ fn put_record(
 {
     let mut next = put_depth(buf, at, index);
     next = put_text_part(buf, next, pool, starts, item.name);
-    next = put_text_part(buf, next, pool, starts, item.long);
+    next = put_text_part(buf, next, pool, starts, item.long as u16);
     next = put_bits(buf, next, item);
     next = put_text_part(buf, next, pool, starts, item.text);
-    put_bytes(buf, next, b"\n")
+    let mark = item.mark;
+    put_mark(buf, next, mark)
 }
 
 // The pool is fetched once, since fetching copies it.

@@ -1,3 +1,3 @@
 pub mod Laws
 pub mod Decides
-pub mod MetByKind
+pub mod ByMark

@@ -6,8 +6,10 @@ use mathlib.Core.Path.{_≡_}
 use lib.Dec.{eqb}
 use Rattle.records.specs.Bits.{fieldOf}
 use Rattle.refusals.specs.declared.Refusal.{Refusal}
+use Rattle.records.specs.Kinds.{markNumber}
 use Rattle.records.specs.Rows.{recordOf, meets, refusalOf}
 use Rattle.records.specs.Sets.{recordsOf, recordAt}
+use Rattle.records.specs.declared.Mark.{Mark}
 use Rattle.records.specs.declared.Record.{Record}
 use Rattle.records.specs.declared.Records.{Records}
 use Rattle.records.specs.declared.Row.{Row}
@@ -18,6 +20,9 @@ Field (v, start, width) r = r ≡ fieldOf v start width
 
 abbrev pub AsBit : ℕ × ℕ → Bool → Type 0
 AsBit (v, position) r = r ≡ eqb (fieldOf v position 1) 1
+
+abbrev pub Number : Mark → ℕ → Type 0
+Number mark r = r ≡ markNumber mark
 
 abbrev pub Got : Row × ℕ → Record → Type 0
 Got (row, v) r = r ≡ recordOf v row

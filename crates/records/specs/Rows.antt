@@ -4,7 +4,7 @@ use mathlib.Core.Bool.{Bool}
 use Rattle.texts.specs.Pool.{textCode}
 use Rattle.refusals.specs.declared.Refusal.{Refusal}
 use Rattle.records.specs.Bits.{fieldOf}
-use Rattle.records.specs.Kinds.{Kind, kindOf, allows, reasonOf, named}
+use Rattle.records.specs.Kinds.{Kind, kindOf, markOf, allows, reasonOf, named}
 use Rattle.records.specs.declared.Record.{Record}
 use Rattle.records.specs.declared.Row.{Row}
 
@@ -20,10 +20,11 @@ recordOf v r =
     record {
       value = valueIn v r;
       name = r .name;
-      long = r .long;
       text = textCode (r .rule) (valueIn v r);
+      long = r .long;
       start = r .start;
       width = r .width;
+      mark = markOf (rowKind r);
     }
 
 unfoldable pub meets : ℕ → Row → Bool

@@ -4,6 +4,7 @@ use mathlib.Core.Bool.{cond}
 use mathlib.Core.List.{List, _++_}
 use lib.Dec.{ltb}
 use lib.ListN.{length, getD, take, replicate}
+use Rattle.records.specs.declared.Mark.the-variants.{Free}
 use Rattle.records.specs.declared.Record.{Record}
 use Rattle.records.specs.declared.Records.{Records}
 
@@ -11,7 +12,7 @@ abbrev pub setRoom : ℕ
 setRoom = 19
 
 abbrev pub noRecord : Record
-noRecord = record { value = 0; name = 0; long = 0; text = 0; start = 0; width = 0 }
+noRecord = record { value = 0; name = 0; text = 0; long = 0; start = 0; width = 0; mark = Free }
 
 -- the set that holds these records
 unfoldable pub recordsOf : List Record → Records

@@ -1,6 +1,6 @@
 // The vocabulary of a reading: fields of a value, rows, records and sets of them.
-ghost use Rattle.records.specs.Promises.{AsBit, At, Emptied, Field, Got, Meets, Refused};
-ghost use Rattle.records.specs.Kinds.{kindOf, reasonOf};
+ghost use Rattle.records.specs.Promises.{AsBit, At, Emptied, Field, Got, Meets, Number, Refused};
+ghost use Rattle.records.specs.Kinds.{kindOf, markOf, reasonAt};
 ghost use Rattle.records.specs.Sets.{noRecord};
 ghost use mathlib.Core.Path.{_≡_};
 use refusals::Reason;
@@ -28,18 +28,50 @@ pub fn as_bit(v: u64, position: u8) -> bool
     field(v, position, 1) == 1
 }
 
-// The reason by which a kind of row refuses; one that asks nothing has none.
-fn reason_of(kind: u8) -> Reason
-    ensures { λ r. ⌜ r ≡ reasonOf (kindOf kind) ⌝ }
+// What is known of a record's field: that nothing is asked of it, that it is on its list, that it is reserved and 0, or reserved and anything.
+pub enum Mark {
+    Free,
+    Coded,
+    Checked,
+    Unchecked,
+}
+
+impl Mark {
+    pub fn number(self) -> u8
+        ensures { λ r. ⌜ Number self r ⌝ }
+    {
+        match self {
+            Mark::Free => 0,
+            Mark::Coded => 1,
+            Mark::Checked => 2,
+            Mark::Unchecked => 3,
+        }
+    }
+}
+
+// The numbers of the marks are those of the cases, so that this costs an instruction for each record and no lookup.
+fn mark_of(kind: u8) -> Mark
+    ensures { λ r. ⌜ r ≡ markOf (kindOf kind) ⌝ }
 {
-    match kind {
-        kinds::CHECKED => Reason::InvalidRes0,
-        kinds::EC => Reason::InvalidEc,
-        kinds::FSC => Reason::InvalidFsc,
-        kinds::SET => Reason::InvalidSet,
-        kinds::AET => Reason::InvalidAet,
-        kinds::AM => Reason::InvalidAm,
-        kinds::LD64B_ISS => Reason::InvalidLd64bIss,
+    match kind % kinds::MARKS {
+        kinds::FREE => Mark::Free,
+        kinds::CODED => Mark::Coded,
+        kinds::CHECKED => Mark::Checked,
+        _ => Mark::Unchecked,
+    }
+}
+
+// The reason of a coded kind, by its index.
+fn reason_at(index: u8) -> Reason
+    ensures { λ r. ⌜ r ≡ reasonAt index ⌝ }
+{
+    match index {
+        0 => Reason::InvalidEc,
+        1 => Reason::InvalidFsc,
+        2 => Reason::InvalidSet,
+        3 => Reason::InvalidAet,
+        4 => Reason::InvalidAm,
+        5 => Reason::InvalidLd64bIss,
         _ => Reason::None,
     }
 }
@@ -58,10 +90,11 @@ pub struct Row {
 pub struct Record {
     pub value: u64,
     pub name: u16,
-    pub long: u16,
     pub text: u16,
+    pub long: u8,
     pub start: u8,
     pub width: u8,
+    pub mark: Mark,
 }
 
 impl Row {
@@ -73,10 +106,11 @@ impl Row {
         Record {
             value,
             name: self.name as u16,
-            long: self.long as u16,
             text: lookup::text_code(self.rule, value),
+            long: self.long,
             start: self.start,
             width: self.width,
+            mark: mark_of(self.kind),
         }
     }
 
@@ -84,33 +118,32 @@ impl Row {
     pub fn meets(self, v: u64) -> bool
         ensures { λ r. ⌜ Meets (self, v) r ⌝ }
     {
-        let kind = self.kind;
-        if kind == kinds::CHECKED {
-            return field(v, self.start, self.width) == 0;
+        let value = field(v, self.start, self.width);
+        match mark_of(self.kind) {
+            Mark::Free => true,
+            Mark::Coded => lookup::describes(self.rule, value),
+            Mark::Checked => value == 0,
+            Mark::Unchecked => true,
         }
-        if kinds::CHECKED < kind {
-            if kind <= kinds::LAST {
-                return lookup::describes(self.rule, field(v, self.start, self.width));
-            }
-        }
-        true
     }
 
-    // What the row answers where its field is not as it asks: the reason of its kind, carrying its field. A reserved field is named too.
+    // What the row answers where its field is not as it asks: the reason of its kind, carrying its field. A reserved field is named too. A row
+    // that asks nothing has no reason.
     pub fn refusal(self, v: u64) -> Refusal
         ensures { λ r. ⌜ Refused (self, v) r ⌝ }
     {
         let carries = field(v, self.start, self.width);
-        let kind = self.kind;
-        if kind == kinds::CHECKED {
-            return Refusal {
+        match mark_of(self.kind) {
+            Mark::Free => Refusal::carrying(Reason::None, carries),
+            Mark::Coded => Refusal::carrying(reason_at(self.kind / kinds::MARKS), carries),
+            Mark::Checked => Refusal {
                 carries,
                 start: self.start,
                 width: self.width,
                 reason: Reason::InvalidRes0,
-            };
+            },
+            Mark::Unchecked => Refusal::carrying(Reason::None, carries),
         }
-        Refusal::carrying(reason_of(kind), carries)
     }
 }
 
@@ -121,10 +154,11 @@ fn no_record() -> Record
     Record {
         value: 0,
         name: 0,
-        long: 0,
         text: 0,
+        long: 0,
         start: 0,
         width: 0,
+        mark: Mark::Free,
     }
 }
 

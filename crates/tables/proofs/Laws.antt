@@ -12,7 +12,7 @@ use Rattle.tables.specs.Applying.{met, keep}
 
 -- Tests compared.
 
-abbrev sameList : List ℕ → List ℕ → Bool
+abbrev pub sameList : List ℕ → List ℕ → Bool
 sameList [] [] = true
 sameList [] (y ∷ ys) = false
 sameList (x ∷ xs) [] = false
@@ -21,7 +21,7 @@ sameList (x ∷ xs) (y ∷ ys) = eqb x y && sameList xs ys
 abbrev pub same : Test → Test → Bool
 same s t = eqb (s .start) (t .start) && (eqb (s .width) (t .width) && sameList (s .among) (t .among))
 
-same-list : (xs ys : List ℕ) → T (sameList xs ys) → xs ≡ ys
+pub same-list : (xs ys : List ℕ) → T (sameList xs ys) → xs ≡ ys
 same-list [] [] t = refl
 same-list [] (y ∷ ys) t = absurd t
 same-list (x ∷ xs) [] t = absurd t

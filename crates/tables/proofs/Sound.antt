@@ -1,5 +1,5 @@
 -- Every table is sound under every outcome of its conditions: one test, which antt computes.
-use mathlib.Core.Path.{sym, subst}
+use mathlib.Core.Path.{_≡_, refl, sym, subst}
 use mathlib.Core.Bool.{Bool, true, false, cond, not, _&&_, _||_}
 use mathlib.Core.List.{List, [], _∷_, map, List·Memᴰ}
 use Prim.Native.Nat.{ℕ, zero, suc, _+_, _^_, _≤_}
@@ -11,12 +11,13 @@ use Rattle.texts.specs.Names.{names}
 use Rattle.texts.specs.Rules.{rules, className}
 use Rattle.texts.specs.Pool.{code, indexIn, describes, onList, ruleAt}
 use Rattle.refusals.specs.Refusals.{reasonNumber}
-use Rattle.records.specs.Kinds.{Kind, Free, Unchecked, Checked, Coded, kinds, kindOf}
+use Rattle.refusals.specs.declared.Reason.the-variants.{InvalidEc}
+use Rattle.records.specs.Kinds.{Kind, Free, Coded, Checked, Unchecked, kindOf}
 use Rattle.records.specs.Rows.{rowKind}
 use Rattle.records.specs.declared.Row.{Row}
 use Rattle.tables.specs.Shape.{Test, Condition, Line, Table, tests}
 use Rattle.tables.specs.Applying.{passes, keep, rowsFor, isCheck, inOrder}
-use Rattle.tables.specs.Tables.{Served, layouts, res0, wf, mcr, mcrr, ldc, sve, ld64b, bti, pauth, hvc, brk, fp, breakpoint, softwareStep, watchpoint, instructionAbort, dataAbort, serror, undivided}
+use Rattle.tables.specs.Tables.{topRows, Served, layouts, res0, wf, mcr, mcrr, ldc, sve, ld64b, bti, pauth, hvc, brk, fp, breakpoint, softwareStep, watchpoint, instructionAbort, dataAbort, serror, undivided}
 use Rattle.tables.proofs.Laws.{same, given, knowsLines, keep-is}
 
 -- "Each layout is at most 14 rows"
@@ -36,7 +37,7 @@ tiled (r ∷ rs) = tiles 25 (r ∷ rs)
 abbrev pub covers : List ℕ → ℕ → Row → Bool
 covers order i r = not (isCheck (rowKind r)) || member (r .start) order
 
--- A row's own columns. Its name, long name and kind are of their lists, so that none is misspelt. A coded row refuses by a number of 01's, and each
+-- A row's own columns. Its name and long name are of their list, so that none is misspelt. A coded row refuses by a number of 01's, and each
 -- value that its rule lists is one that it can hold. A free row's rule says something of each value that it can hold, or of none: so a
 -- rule of one bit has a row of one bit, which is what the Rust asserts in as_bit. A checked row has no text but that of 0.
 abbrev describesAll : ℕ → ℕ → Bool
@@ -49,7 +50,7 @@ fits Checked rule width = eqb rule 0 || describesAll rule 1
 fits Unchecked rule width = eqb rule 0
 
 abbrev soundRow : ℕ → Row → Bool
-soundRow i r = leb 1 (r .name) && (ltb (r .name) (length names) && (ltb (r .long) (length names) && (ltb (r .kind) (length kinds) && fits (rowKind r) (r .rule) (r .width))))
+soundRow i r = leb 1 (r .name) && (ltb (r .name) (length names) && (ltb (r .long) (length names) && fits (rowKind r) (r .rule) (r .width)))
 
 -- the rows that apply under some outcome of the conditions, under the order of the checks
 abbrev pub soundRows : List Row → List ℕ → Bool
@@ -98,6 +99,11 @@ classSound c = cond (describes (className .number) c) (eqb (served layouts c) 1)
 
 abbrev soundServed : ℕ → Served → Bool
 soundServed i s = soundTable (s .table)
+
+-- "37..64 is checked .. ISS2 and the ISS record itself are free" (#109); EC is coded, and IL free
+pub top-kinds : (rule : ℕ) → map rowKind (topRows rule) ≡ Checked ∷ Free ∷ Coded InvalidEc ∷ Free ∷ Free ∷ []
+unfolding topRows kindOf
+top-kinds rule = refl
 
 -- the computed test
 all-sound : T (every soundServed 0 layouts && from classSound 0 64)
