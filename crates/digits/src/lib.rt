@@ -1,10 +1,10 @@
-// Digits of a number, in base 2, 10 or 16, in a lent buffer: as many as are asked for, or the fewest that hold the number. They are worked
-// out lowest first.
-ghost use Prim.Native.Nat.{_+_, _≤_, _<_};
+// Digits of a number, in base 2, 10 or 16, in a lent buffer: as many as are asked for, or the fewest that hold the number. In base 2 and 16
+// they are groups of the number's bits, found by shifts, highest first; decimal ones are found by division, lowest first.
+ghost use Prim.Native.Nat.{_+_, _-_, _*_, _/_, _^_, _≤_, _<_};
+ghost use Rattle.buffer.specs.Appending.{Appends};
 ghost use Rattle.digits.specs.Digits.{digitChar, digitsOf, radixOf, unpadded};
 ghost use Rattle.digits.specs.Promises.{DigitsPut, NumberPut};
 ghost use lib.ListN.{length};
-ghost use lib.Seq.{sets};
 ghost use mathlib.Core.Path.{_≡_};
 
 pub enum Base {
@@ -16,16 +16,6 @@ pub enum Base {
 // More digits than a count of eight bits can ask for.
 const MOST: usize = 256;
 
-fn radix(base: Base) -> u64
-    ensures { λ r. ⌜ (r ≡ radixOf base) × (2 ≤ r) × (r ≤ 16) ⌝ }
-{
-    match base {
-        Base::Binary => return 2,
-        Base::Decimal => return 10,
-        Base::Hex => return 16,
-    }
-}
-
 fn digit(d: u64) -> u8
     requires { ⌜ d < 16 ⌝ }
     ensures { λ r. ⌜ r ≡ digitChar d ⌝ }
@@ -36,46 +26,100 @@ fn digit(d: u64) -> u8
     b'a' - 10 + d as u8
 }
 
-fn write_digits(buf: &mut [u8], at: usize, radix: u64, n: usize, v: u64)
-    requires { ⌜ (2 ≤ radix) × (radix ≤ 16) × (at + n ≤ length (now buf)) ⌝ }
-    ensures { λ _. ⌜ now (buf .exit) ≡ sets (now (buf .entry)) at (digitsOf radix n v) ⌝ }
+// How many of n bytes a buffer takes from an offset on.
+fn taken(buf: &[u8], at: usize, n: usize) -> usize
+    ensures { λ r. ⌜ (r ≤ n) × (r ≤ length (now (buf .entry)) - at) × (r < n → length (now (buf .entry)) ≤ at + r) ⌝ }
 {
-    let mut left = n;
-    let mut rest = v;
-    while 0 < left {
-        left -= 1;
-        buf[at + left] = digit(rest % radix);
-        rest = rest / radix;
+    if buf.len() <= at {
+        return 0;
     }
+    if n <= buf.len() - at {
+        return n;
+    }
+    buf.len() - at
 }
 
-// Where the buffer ends within the digits, they are worked out elsewhere first.
+// Digits of `size` bits each, as far as the buffer goes. The next one stands on top of a word.
+fn put_word(buf: &mut [u8], at: usize, size: usize, n: usize, value: u64) -> usize
+    requires { ⌜ (1 ≤ size) × (size ≤ 4) × (size * n ≤ 64) ⌝ }
+    ensures { λ r. ⌜ Appends (digitsOf (2 ^ size) n value) (at, now (buf .entry)) (r, now (buf .exit)) ⌝ }
+{
+    let next = buffer::offset_after(at, n);
+    let count = taken(buf, at, n);
+    // None is asked for, or none has a place.
+    if count == 0 {
+        return next;
+    }
+    let mut left = count;
+    let mut top = value << (64 - size * n);
+    while 0 < left {
+        buf[at + (count - left)] = digit(top >> (64 - size));
+        top = top << size;
+        left -= 1;
+    }
+    next
+}
+
+// Digits of `size` bits each, of which a word holds `most`. Those above them are 0.
+fn put_groups(buf: &mut [u8], at: usize, size: usize, most: usize, n: usize, value: u64) -> usize
+    requires { ⌜ (1 ≤ size) × (size ≤ 4) × (size * most ≡ 64) × (n < 256) ⌝ }
+    ensures { λ r. ⌜ Appends (digitsOf (2 ^ size) n value) (at, now (buf .entry)) (r, now (buf .exit)) ⌝ }
+{
+    if n <= most {
+        return put_word(buf, at, size, n, value);
+    }
+    let zeros = [b'0'; MOST];
+    let next = buffer::put_bytes(buf, at, &zeros[0..n - most]);
+    put_word(buf, next, size, most, value)
+}
+
+// Decimal digits, as far as the buffer goes.
+fn put_decimal(buf: &mut [u8], at: usize, n: usize, value: u64) -> usize
+    ensures { λ r. ⌜ Appends (digitsOf 10 n value) (at, now (buf .entry)) (r, now (buf .exit)) ⌝ }
+{
+    let count = taken(buf, at, n);
+    let mut left = n;
+    let mut rest = value;
+    while 0 < left {
+        left -= 1;
+        if left < count {
+            buf[at + left] = digit(rest % 10);
+        }
+        rest = rest / 10;
+    }
+    buffer::offset_after(at, n)
+}
+
 pub fn put_digits(buf: &mut [u8], at: usize, base: Base, count: u8, value: u64) -> usize
     ensures { λ r. ⌜ DigitsPut (now (buf .entry), at, base, count, value) (r, now (buf .exit)) ⌝ }
 {
     let n = count as usize;
-    if buf.len() <= at {
-        return buffer::offset_after(at, n);
+    match base {
+        Base::Binary => return put_groups(buf, at, 1, 64, n, value),
+        Base::Decimal => return put_decimal(buf, at, n, value),
+        Base::Hex => return put_groups(buf, at, 4, 16, n, value),
     }
-    let radix = radix(base);
-    if n <= buf.len() - at {
-        write_digits(buf, at, radix, n, value);
-        return at + n;
+}
+
+// What stands above the lowest digit.
+fn above(base: Base, v: u64) -> u64
+    ensures { λ r. ⌜ r ≡ v / radixOf base ⌝ }
+{
+    match base {
+        Base::Binary => return v >> 1,
+        Base::Decimal => return v / 10,
+        Base::Hex => return v >> 4,
     }
-    let mut digits = [0u8; MOST];
-    write_digits(&mut digits, 0, radix, n, value);
-    buffer::put_bytes(buf, at, &digits[0..n])
 }
 
 // The fewest digits that hold a number, and one for 0.
-fn fewest(radix: u64, v: u64) -> u8
-    requires { ⌜ 2 ≤ radix ⌝ }
-    ensures { λ r. ⌜ r ≡ unpadded radix v ⌝ }
+fn fewest(base: Base, v: u64) -> u8
+    ensures { λ r. ⌜ r ≡ unpadded (radixOf base) v ⌝ }
 {
     let mut n: u8 = 1;
-    let mut rest = v / radix;
+    let mut rest = above(base, v);
     while 0 < rest {
-        rest = rest / radix;
+        rest = above(base, rest);
         n += 1;
     }
     n
@@ -84,5 +128,5 @@ fn fewest(radix: u64, v: u64) -> u8
 pub fn put_number(buf: &mut [u8], at: usize, base: Base, value: u64) -> usize
     ensures { λ r. ⌜ NumberPut (now (buf .entry), at, base, value) (r, now (buf .exit)) ⌝ }
 {
-    put_digits(buf, at, base, fewest(radix(base), value), value)
+    put_digits(buf, at, base, fewest(base, value), value)
 }

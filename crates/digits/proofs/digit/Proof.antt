@@ -1,31 +1,21 @@
--- Ten figures, then letters: the sixteen digits by two computed tests.
-use Rattle.digits.proofs.Numerals.{figure-at, letter-at}
+-- Ten figures, then letters: two runs of the sixteen digits, each by a computed test.
 use borrow.Author.Needs.{needs}
+use native.Mathlib.Omega.{arith}
+use Rattle.texts.specs.Pool.{bytes}
+use Rattle.digits.specs.Digits.{digitChar}
+use Rattle.digits.proofs.Numerals.{char-at}
 use Rattle.digits.proofs.digit.Statement.{statement}
 use Rattle.digits.proofs.digit.Tie as tie
 
-cast-result : tie.Need-cast-result
-cast-result c = search needs
-
-add-result : tie.Need-add-result
-add-result c = search needs
-
 returns : tie.Need-returns
-returns c = figure-at (c .before .args .d) (c .if1 .taken)
-
-sub-result : tie.Need-sub-result
-sub-result c = search needs
-
-cast-result-2 : tie.Need-cast-result-2
-cast-result-2 c = search needs
-
-add-result-2 : tie.Need-add-result-2
-add-result-2 c = search needs
+unfolding digitChar bytes
+returns c = char-at 48 0 10 tt (c .before .args .d) (omega arith) (omega arith)
 
 returns-2 : tie.Need-returns-2
-returns-2 c = letter-at (c .before .args .d) (c .if1 .left) (c .before .pre)
+unfolding digitChar bytes
+returns-2 c = char-at 87 10 6 tt (c .before .args .d) (omega arith) (omega arith)
 
 pub digit-spec : {M : Type 1} → statement M
 digit-spec =
     tie.close
-    (tie.spec cast-result add-result returns sub-result cast-result-2 add-result-2 returns-2)
+    (tie.spec (λ c. search needs) (λ c. search needs) returns (λ c. search needs) (λ c. search needs) (λ c. search needs) returns-2)
