@@ -37,8 +37,9 @@ enum {
     ESR_BAD_INDEX = 13,        /* record index not below the record count; the count */
     ESR_SHORT_ENTRY = 14,      /* fewer bytes than an entry's length takes, or than it says */
     ESR_BAD_LENGTH = 15,       /* an entry's length is not 11 */
-    ESR_BAD_VERSION = 16       /* an entry's version is not 1 */
+    ESR_BAD_VERSION = 16,      /* an entry's version is not 1 */
     /* 17 is unused and is not given again: it stood for SAS or TI above 3, and both are two bits wide. */
+    ESR_LONG_BLOCK = 20        /* a block of more than 65,536 bytes */
 };
 
 /* As many records as any value has: 14 inside ISS, 19 in all. */

@@ -20,6 +20,7 @@ pub enum Reason {
     ShortEntry,
     BadLength,
     BadVersion,
+    LongBlock,
 }
 
 impl Reason {
@@ -45,6 +46,7 @@ impl Reason {
             Reason::ShortEntry => 14,
             Reason::BadLength => 15,
             Reason::BadVersion => 16,
+            Reason::LongBlock => 20,
         }
     }
 }

@@ -413,6 +413,7 @@ ownWords =
     14 means "the bytes end before the entry does" ∷
     15 means "the entry's length is not 11" ∷
     16 means "the entry's version is not 1" ∷
+    20 means "the block is longer than 65,536 bytes" ∷
     [])
 
 unfoldable pub rules : List Rule
