@@ -1,0 +1,11 @@
+-- What the public function promises. A promise takes what comes in, with what a lent run holds at entry, then what comes out, with what it holds
+-- at exit.
+use Prim.Native.Nat.{ℕ}
+use mathlib.Core.List.{List}
+use mathlib.Core.Path.{_≡_}
+use Rattle.walk.specs.Walks.{walking}
+use Rattle.walk.specs.declared.Walked.{Walked}
+
+-- of any block and any run
+abbrev pub BlockWalked : List ℕ × List ℕ → Walked × List ℕ → Type 0
+BlockWalked (block, before) out = out ≡ walking block before
