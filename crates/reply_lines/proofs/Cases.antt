@@ -1,4 +1,5 @@
--- The words of a refusal by whether it has a message, and its field where it names one; of the project's own pool words of our own are the definition's.
+-- The words of a refusal by whether it has a message, and its field where it names one; of the project's own pool a rule's text of a value is the
+-- definition's.
 use Prim.Native.Nat.{ℕ}
 use mathlib.Core.Bool.{true, false}
 use mathlib.Core.List.{List, [], _++_}
@@ -33,7 +34,7 @@ module _ (f : Refusal) (n : ℕ) (is : n ≡ refusalNumber f) where
   unfolding fieldPart
   field-unnamed h = rw (← is, ne-eqb n 1 h)
 
-pub words-lent : (number : ℕ) {lent starting : List ℕ} → Lent lent starting
-    → partIn lent starting (textCode (ownWords .number) number) ≡ bytes (descriptionOf (ownWords .number) number)
+pub described-lent : (rule value : ℕ) {lent starting : List ℕ} → Lent lent starting
+    → partIn lent starting (textCode rule value) ≡ bytes (descriptionOf rule value)
 unfolding bytesAt
-words-lent number own = rw (lent-text (textCode (ownWords .number) number) own, text-described (ownWords .number) number)
+described-lent rule value own = rw (lent-text (textCode rule value) own, text-described rule value)

@@ -1,8 +1,8 @@
 // The lines that every reply is made of, in a lent buffer from an offset on: one that ends with a number; a refusal by its number, and why: the
 // Rust's message where there is one, else words of our own.
 ghost use Rattle.buffer.specs.Appending.{Appends};
-ghost use Rattle.reply_lines.specs.Lines.{fieldPart, refusedBy, why};
-ghost use Rattle.reply_lines.specs.Promises.{CarriedLine, NumberLine, RefusalLine};
+ghost use Rattle.reply_lines.specs.Lines.{fieldPart};
+ghost use Rattle.reply_lines.specs.Promises.{CarriedLine, NumberLine, RefusalLine, RefusedPart, WhyPart};
 use buffer::put_bytes;
 use buffer::put_text;
 use digits::Base;
@@ -20,15 +20,15 @@ pub fn put_number_line(buf: &mut [u8], at: usize, front: &[u8], base: Base, valu
     put_bytes(buf, next, b"\n")
 }
 
-fn put_refused(buf: &mut [u8], at: usize, refusal: Refusal) -> usize
-    ensures { λ r. ⌜ Appends (refusedBy refusal) (at, now (buf .entry)) (r, now (buf .exit)) ⌝ }
+pub fn put_refused(buf: &mut [u8], at: usize, refusal: Refusal) -> usize
+    ensures { λ r. ⌜ RefusedPart (now (buf .entry), at, refusal) (r, now (buf .exit)) ⌝ }
 {
     let next = put_bytes(buf, at, b"refused ");
     put_number(buf, next, Base::Decimal, refusal.number() as u64)
 }
 
-fn put_why(buf: &mut [u8], at: usize, refusal: Refusal) -> usize
-    ensures { λ r. ⌜ Appends (why refusal) (at, now (buf .entry)) (r, now (buf .exit)) ⌝ }
+pub fn put_why(buf: &mut [u8], at: usize, refusal: Refusal) -> usize
+    ensures { λ r. ⌜ WhyPart (now (buf .entry), at, refusal) (r, now (buf .exit)) ⌝ }
 {
     let pool = texts::pool_bytes();
     let starts = texts::text_starts();

@@ -7,7 +7,7 @@ use mathlib.Core.Path.{_≡_, refl, sym, ap, _∙_}
 use native.Mathlib.Numerals.{add-one}
 use native.Mathlib.Omega.{arith}
 use lib.Dec.{eqb, ltb, eqb→eq}
-use lib.ListN.{length, take, drop, set, length-append, length-drop, take-append-drop, length-map}
+use lib.ListN.{length, getD, take, drop, set, length-append, length-drop, take-append-drop, length-map}
 use lib.Seq.{take-all, take-suc-set, drop-set-lt, drop-drop, length-take-le}
 use borrow.Author.Tests.{eq-eqb, ne-eqb, eqb-true, eqb-false, lt-ltb, le-ltb}
 use Rattle.entry.proofs.Laws.{facts}
@@ -16,10 +16,11 @@ use Rattle.entry.specs.BigEndian.{bytesAfter}
 use Rattle.entry.specs.Entries.{lengthIn, judged, sound, entryOf}
 use Rattle.entry.specs.declared.Entry.{Entry}
 use Rattle.promise.proofs.Tests.{both-left, both-right, is-true}
-use Rattle.refusals.specs.Refusals.{bare, carrying, noRefusal, reasonNumber, refusalNumber}
+use Rattle.refusals.specs.Refusals.{bare, carrying, noRefusal, passed, reasonNumber, refusalNumber}
 use Rattle.refusals.specs.declared.Reason.the-variants.{LongBlock, ShortBuffer}
 use Rattle.refusals.specs.declared.Refusal.{Refusal}
 use Rattle.walk.specs.Walks.{erased, over, ends, entriesWithin, entriesOf, endRefusal, decodes, decodedIn, skipped, stepsAfter, stepsOf, sequences, stepsIn, walkRefusal, walked, refusing, walking}
+use Rattle.walk.specs.declared.Walked.{Walked}
 
 -- Where the walk ends.
 
@@ -224,14 +225,42 @@ module _ (s before : List ℕ) (n : ℕ) (within : length s ≤ 65536) (needed :
       let room : ltb (length before) (length (stepsIn s)) ≡ false = le-ltb (length before) (length (stepsIn s)) (omega arith) in
       rw (le-ltb 65536 (length s) within, room)
 
+-- a walk that is refused says so by the refusal of the definition, and one that is not is walked whole
+pub refusal-told : (s before : List ℕ) → walking s before .0 .refusal ≡ walkRefusal s (length before)
+unfolding walking walked walkRefusal
+refusal-told s before = by (ltb 65536 (length s)) (ltb (length before) (length (stepsIn s)))
+  where
+    refusalBy : Bool → Bool → Refusal
+    refusalBy long short = cond long (bare LongBlock) (cond short (carrying ShortBuffer (length (stepsIn s))) noRefusal)
+
+    answerBy : Refusal → Walked
+    answerBy f = cond {A = Walked × List ℕ} (passed f) (walked s, stepsIn s ++ drop (length (stepsIn s)) before) (refusing f, before) .0
+
+    by : (long short : Bool) → answerBy (refusalBy long short) .refusal ≡ refusalBy long short
+    by true short = refl
+    by false true = refl
+    by false false = refl
+
+pub walk-passed : (s before : List ℕ) → passed (walkRefusal s (length before)) ≡ true
+    → walking s before ≡ (walked s, stepsIn s ++ drop (length (stepsIn s)) before)
+unfolding walking
+walk-passed s before h = rw h
+
 -- what stands at the end
 pub over-short : (s : List ℕ) → length s < 2 → eqb (length s) 0 ≡ over s
 over-short [] h = refl
 over-short (a ∷ []) h = sym (and-false (eqb a 0xFF))
 over-short (a ∷ b ∷ s) h = absurd (omega arith)
 
-pub over-erased : (s : List ℕ) → 2 ≤ length s → over s ≡ erased s
-over-erased s h = rw (ne-eqb (length s) 0 (λ z. omega arith))
+module _ (s : List ℕ) (two : 2 ≤ length s) where
+  not-empty : eqb (length s) 0 ≡ false
+  not-empty = ne-eqb (length s) 0 (λ z. omega arith)
+
+  pub over-first : (getD s 0 0 ≡ 0xFF → ⊥) → eqb (getD s 0 0) 0xFF ≡ over s
+  over-first h = rw (not-empty, ne-eqb (getD s 0 0) 0xFF h)
+
+  pub over-second : getD s 0 0 ≡ 0xFF → eqb (getD s 1 0) 0xFF ≡ over s
+  over-second h = rw (not-empty, eq-eqb (getD s 0 0) 0xFF h)
 
 pub end-over : (t : List ℕ) → over t ≡ true → endRefusal t ≡ noRefusal
 unfolding endRefusal

@@ -38,10 +38,10 @@ module _ (s : List ℕ) (is-erased : erased s ≡ true) where
 
 -- Every entry that is counted is the entry reader's answer at 13 times its index, and that reader accepts it.
 
-abbrev nothing : Entry
+abbrev pub nothing : Entry
 nothing = record { esr = 0; refusal = noRefusal; sequence = 0 }
 
-abbrev ReadAt : ℕ → List ℕ → Type 0
+abbrev pub ReadAt : ℕ → List ℕ → Type 0
 ReadAt k s = (getD (entriesOf s) k nothing ≡ entryOf (drop (13 * k) s)) × (refusalNumber (entryOf (drop (13 * k) s) .refusal) ≡ 0)
 
 next-place : (k : ℕ) (s : List ℕ) → drop (13 * k) (drop 13 s) ≡ drop (13 * suc k) s
@@ -121,11 +121,11 @@ lost-steps q m k n h = lost-after q m k n h
 
 -- Entries written one after another are read one after another, whatever follows.
 
-abbrev Fit : List (ℕ × ℕ) → Type 0
+abbrev pub Fit : List (ℕ × ℕ) → Type 0
 Fit [] = Unit {0}
 Fit ((sequence, esr) ∷ more) = (sequence < 256 ^ 2) × (esr < 256 ^ 8) × Fit more
 
-abbrev readAs : ℕ × ℕ → Entry
+abbrev pub readAs : ℕ × ℕ → Entry
 readAs (sequence, esr) = record { esr = esr; refusal = noRefusal; sequence = sequence }
 
 pub written-read : (es : List (ℕ × ℕ)) (rest : List ℕ) → Fit es → entriesOf (blockBytes es ++ rest) ≡ map readAs es ++ entriesOf rest

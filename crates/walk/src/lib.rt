@@ -117,13 +117,13 @@ fn write_steps(block: &[u8], steps: &mut [u16])
     let mut written: usize = 0;
     let mut at: usize = ENTRY_SIZE;
     while at < block.len() {
-        let entry = read_entry(&block[at..]);
-        let bad = entry.refusal;
+        let next = read_entry(&block[at..]);
+        let bad = next.refusal;
         if bad.number() != 0 {
             return;
         }
-        steps[written] = skipped_to(last, entry.sequence);
-        last = entry.sequence;
+        steps[written] = skipped_to(last, next.sequence);
+        last = next.sequence;
         written += 1;
         at += ENTRY_SIZE;
     }

@@ -1,10 +1,10 @@
 -- By whether the number is one of a message; of the project's own pool message and words are the definition's.
 use borrow.Author.Needs.{needs}
-use mathlib.Core.Path.{sym, _∙_, ap}
-use Rattle.reply_lines.proofs.Cases.{why-message, why-own, words-lent}
+use mathlib.Core.Path.{sym, _∙_}
+use Rattle.reply_lines.proofs.Cases.{why-message, why-own, described-lent}
 use Rattle.strings.proofs.Cases.{message-lent}
 use Rattle.texts.specs.Pool.{describes}
-use Rattle.texts.specs.Rules.{message}
+use Rattle.texts.specs.Rules.{message, ownWords}
 use Rattle.reply_lines.proofs.put_why.Statement.{statement}
 use Rattle.reply_lines.proofs.put_why.Tie as tie
 
@@ -29,7 +29,7 @@ returns-2 c =
     let n = d .before in
     let q = n .before in
     let f = q .before .before .before .args .refusal in
-    let own = words-lent (n .number .result) (record { whole = q .before .pool-bytes .ensures; each = q .text-starts .ensures }) in
+    let own = described-lent (ownWords .number) (n .number .result) (record { whole = q .before .pool-bytes .ensures; each = q .text-starts .ensures }) in
     rw (why-own f (n .number .result) (n .number .ensures) (sym (d .describes .ensures) ∙ t .if1 .left), ← own) (rw (w .text-code .ensures) at (p .put-text .ensures))
 
 pub put-why-spec : {M : Type 1} → statement M

@@ -1,0 +1,26 @@
+-- A block above the limit has the line of refusal 20, and every other is walked: 5,040 places hold the steps of any, so that 11 is never said.
+use Prim.Native.Nat.{ℕ, _≤_, _<_}
+use mathlib.Core.List.{List, _++_}
+use mathlib.Core.Path.{_≡_}
+use lib.ListN.{length, drop}
+use borrow.Author.Tests.{lt-ltb, le-ltb}
+use Rattle.buffer.specs.InOrder.{inOrder}
+use Rattle.refusals.specs.Refusals.{bare}
+use Rattle.refusals.specs.declared.Reason.the-variants.{LongBlock}
+use Rattle.reply_lines.specs.Lines.{refusalLine}
+use Rattle.walk.proofs.Theorems.{at-most}
+use Rattle.walk.specs.Walks.{decodedIn, endOffset, endRefusal, entriesOf, stepsIn, walkRefusal}
+use Rattle.walk_lines.specs.Lines.{countLine, endLine}
+use Rattle.walk_reply.specs.Replies.{linesAt, walkReply}
+
+pub long-told : (s : List ℕ) → 65536 < length s → walkReply s ≡ refusalLine (bare LongBlock)
+unfolding walkReply walkRefusal
+long-told s h = rw (lt-ltb 65536 (length s) h)
+
+pub others-walked : (s : List ℕ) → length s ≤ 65536
+    → walkReply s
+    ≡ inOrder (linesAt (stepsIn s)) (entriesOf s)
+    ++ countLine (length (entriesOf s)) (decodedIn (entriesOf s))
+    ++ endLine (length s) (endOffset s) (endRefusal (drop (endOffset s) s))
+unfolding walkReply walkRefusal
+others-walked s h = rw (le-ltb 65536 (length s) h, le-ltb 5040 (length (stepsIn s)) (at-most s h .1))
