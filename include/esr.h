@@ -99,6 +99,18 @@ typedef struct esr_entry {
     uint8_t width;
 } esr_entry;
 
+/* Where a walk over a block ended, and the refusal of the bad entry that ended it, 0 where none did. */
+typedef struct esr_walked {
+    uint64_t carried;
+    size_t entries;
+    size_t decoded;
+    size_t offset;
+    uint8_t ended;
+    uint8_t refusal;
+    uint8_t start;
+    uint8_t width;
+} esr_walked;
+
 /* Decodes a value into the front of the caller's array: RES0, ISS2, EC, IL and ISS, then ISS's own records, from high bits to low.
    First bits 37 to 63 must be 0, then the class is looked up, then its layout's checks in their order; the first failure answers, by 1 to 7, and
    where that is a reserved field, start and width name it. Then an array that has fewer slots than there are records is refused by 11, which
@@ -146,6 +158,18 @@ esr_number esr_parse_number(const uint8_t *characters, size_t length);
    isn't judged here: esr_decode does that. */
 esr_entry esr_read_entry(const uint8_t *block, size_t length);
 
+/* The bytes of an entry, its length's two included; an array of so many places holds the steps of any block, which is proved. */
+#define ESR_ENTRY_SIZE 13
+#define ESR_STEPS_MAX 5040
+
+/* Walks over a block of entries, which stand one after another from its front, each ESR_ENTRY_SIZE bytes. entries is how many were read, decoded how many of their values
+   esr_decode accepts. The walk ends at the end of the block, at two bytes 0xFF 0xFF at an entry's place, or at the first bad entry: offset says where, and
+   ended is the refusal of that entry, 14, 15 or 16, or 0 where none is bad. A single byte left at the end is a bad entry. The front of the caller's array gets for each
+   step from one entry to the next how many sequence numbers were skipped, where after 65535 comes 0: 0 where none is lost, and 65535 where the number is the same.
+   The places after the steps, one less than there are entries, stay as they were. A block of more than 65536 bytes is refused by 20; then an array that has fewer places than
+   there are steps by 11, which carries the places needed. A refusal leaves the array as it was, and the other members are 0. */
+esr_walked esr_walk(const uint8_t *block, size_t length, uint16_t *steps, size_t places);
+
 /* What the archive takes for granted of the compiler. A false line does not compile. */
 #define ESR_HOLDS(name, fact) typedef char esr_holds_##name[(fact) ? 1 : -1]
 ESR_HOLDS(record, sizeof(esr_record) == 16 && offsetof(esr_record, value) == 0);
@@ -158,6 +182,9 @@ ESR_HOLDS(number_bits, offsetof(esr_number, start) == 17 && offsetof(esr_number,
 ESR_HOLDS(entry, sizeof(esr_entry) == 40 && offsetof(esr_entry, carried) == 8 && offsetof(esr_entry, body) == 16);
 ESR_HOLDS(entry_rest, offsetof(esr_entry, body_length) == 24 && offsetof(esr_entry, sequence) == 32 && offsetof(esr_entry, refusal) == 34);
 ESR_HOLDS(entry_bits, offsetof(esr_entry, start) == 35 && offsetof(esr_entry, width) == 36);
+ESR_HOLDS(walked, sizeof(esr_walked) == 40 && offsetof(esr_walked, entries) == 8 && offsetof(esr_walked, decoded) == 16);
+ESR_HOLDS(walked_rest, offsetof(esr_walked, offset) == 24 && offsetof(esr_walked, ended) == 32 && offsetof(esr_walked, refusal) == 33);
+ESR_HOLDS(walked_bits, offsetof(esr_walked, start) == 34 && offsetof(esr_walked, width) == 35);
 #undef ESR_HOLDS
 #if defined(__BYTE_ORDER__) && __BYTE_ORDER__ != __ORDER_LITTLE_ENDIAN__
 #error "a slot holds name, text, long_name, start, width and mark as one 64-bit word, whose bytes lie in this order on a little-endian machine alone"

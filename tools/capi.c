@@ -347,6 +347,12 @@ static int refuses_with(size_t slot, uint8_t byte, uint8_t refusal) {
     return fact;
 }
 
+/* Three entries, and a place that is erased: after 65,535 comes 0, which then stands twice; the second value is torn. */
+static const uint8_t walked_block[] = {
+    0x00, 0x0B, 0x01, 0xFF, 0xFF, 0x00, 0x00, 0x00, 0x00, 0x56, 0x00, 0x00, 0x01, 0x00, 0x0B, 0x01, 0x00, 0x00, 0xFF, 0xFF, 0xFF,
+    0xFF, 0x56, 0x00, 0x00, 0x01, 0x00, 0x0B, 0x01, 0x00, 0x00, 0x00, 0x00, 0x00, 0x00, 0x00, 0x00, 0x00, 0x00, 0xFF, 0xFF,
+};
+
 static void check_entries(void) {
     for (size_t length = 13; length <= sizeof block; length++) {
         esr_entry entry = esr_read_entry(block, length);
@@ -362,6 +368,28 @@ static void check_entries(void) {
     HOLDS(refuses_with(1, 13, ESR_SHORT_ENTRY));
     HOLDS(refuses_with(0, 0xFF, ESR_SHORT_ENTRY));
     HOLDS(refuses_with(2, 2, ESR_BAD_VERSION));
+}
+
+/* A walk over the entry, an erased place behind it or not, into a run of so many places. */
+static uint16_t steps[4];
+
+static esr_walked walk(size_t length, size_t places) {
+    mark((uint8_t *)steps, sizeof steps);
+    return esr_walk(walked_block, length, steps, places);
+}
+
+static void check_walks(void) {
+    for (size_t places = 0; places <= 3; places++) {
+        esr_walked answer = walk(sizeof walked_block, places);
+        HOLDS(answer.refusal == (places < 2 ? ESR_SHORT_BUFFER : ESR_ACCEPTED) && answer.carried == (places < 2 ? 2 : 0));
+        HOLDS(answer.start == 0 && answer.width == 0 && answer.ended == 0);
+        HOLDS(answer.entries == (places < 2 ? 0 : 3) && answer.decoded == (places < 2 ? 0 : 2) && answer.offset == (places < 2 ? 0 : 39));
+        HOLDS(places < 2 || (steps[0] == 0 && steps[1] == 65535));
+        HOLDS(marked((const uint8_t *)steps, places < 2 ? 0 : 4, sizeof steps));
+    }
+    esr_walked cut = walk(38, 3);
+    HOLDS(cut.refusal == ESR_ACCEPTED && cut.entries == 2 && cut.decoded == 1 && cut.offset == 26 && cut.ended == ESR_SHORT_ENTRY);
+    HOLDS(steps[0] == 0 && marked((const uint8_t *)steps, 2, sizeof steps));
 }
 
 /* The stack below a call is painted, and what is no longer paint afterwards was used; the frame of the small function that makes the call
@@ -395,6 +423,12 @@ static void call_read_entry(void) {
     static esr_entry entry;
     entry = esr_read_entry(block, (size_t)asked % (sizeof block + 1));
     sink = &entry;
+}
+
+static void call_walk(void) {
+    static esr_walked walked;
+    walked = walk((size_t)asked % (sizeof walked_block + 1), 3);
+    sink = &walked;
 }
 
 __attribute__((noinline)) static size_t stack_of(void (*call)(void)) {
@@ -457,6 +491,7 @@ int main(void) {
     check_messages();
     check_numbers();
     check_entries();
+    check_walks();
     if (failures != 0) {
         return 1;
     }
@@ -472,5 +507,6 @@ int main(void) {
     measure_writer("esr_message", write_message, counted, 9);
     measure("esr_parse_number", call_parse_number, counted, 19);
     measure("esr_read_entry", call_read_entry, counted, sizeof block + 1);
+    measure("esr_walk", call_walk, counted, sizeof walked_block + 1);
     return 0;
 }

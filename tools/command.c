@@ -12,7 +12,7 @@ LINUX_START;
 
 /* A program is proved, and asks for read and write alone. It is null where it was not linked. */
 typedef int program(void);
-__attribute__((weak)) program esr_listing, esr_records, esr_number, esr_entry;
+__attribute__((weak)) program esr_listing, esr_records, esr_number, esr_entry, esr_walk;
 
 long read(int file, void *bytes, size_t length);
 long write(int file, const void *bytes, size_t length);
@@ -24,10 +24,12 @@ enum { ANSWERED = 0, REFUSED = 1, FAILED = 2 };
 static int source = IN;
 static char **words;
 static size_t at;
-/* Whether a line began with "refused"; how much of that word the line now written begins with, or that it begins otherwise. */
-static const char refused[] = "refused";
-enum { OTHERWISE = sizeof refused };
-static int is_refused;
+/* The words by which a line tells of something wrong: a refusal, and in a walk entries that were lost or a sequence that stood twice. Whether a line began
+   with one; the first bytes of the line now written. */
+static const char *const wrong[] = {"refused", "lost", "same"};
+enum { LONGEST = sizeof "refused" - 1 };
+static int is_wrong;
+static char front[LONGEST + 1];
 static size_t begun;
 
 static size_t length_of(const char *text) {
@@ -113,14 +115,17 @@ long read(int file, void *bytes, size_t length) {
     return came;
 }
 
-/* Sees whether a line begins with "refused". */
+/* Sees whether a line begins with one of the words. */
 static void watch(const char *bytes, size_t length) {
     for (size_t i = 0; i < length; i++) {
         if (bytes[i] == '\n') {
             begun = 0;
-        } else if (begun < OTHERWISE) {
-            begun = bytes[i] == refused[begun] ? begun + 1 : OTHERWISE;
-            is_refused = is_refused || begun == length_of(refused);
+        } else if (begun < LONGEST) {
+            front[begun++] = bytes[i];
+            front[begun] = 0;
+            for (size_t word = 0; word < sizeof wrong / sizeof wrong[0]; word++) {
+                is_wrong = is_wrong || is(front, wrong[word]);
+            }
         }
     }
 }
@@ -165,8 +170,9 @@ static void run(program *asked, char **given) {
 
 static void run_on_file(program *asked, char **given) {
     const long here = -100;
+    const char *command = *given++;
     if (given[0] != NULL && given[1] != NULL) {
-        fail("one file at a time: esr entry FILE", "", "");
+        fail("one file at a time: esr ", command, " FILE");
     }
     if (given[0] != NULL) {
         long file = call(OPEN_AT, here, (long)given[0], 0);
@@ -190,7 +196,9 @@ static void obey(char **given) {
     } else if (is(first, "number")) {
         run(esr_number, given + 1);
     } else if (is(first, "entry")) {
-        run_on_file(esr_entry, given + 1);
+        run_on_file(esr_entry, given);
+    } else if (is(first, "walk")) {
+        run_on_file(esr_walk, given);
     } else if (first[0] != 0 && first[0] != '+' && (first[0] < '0' || '9' < first[0])) {
         fail("no command '", first, "', and a value begins with a digit; 'esr help' tells what there is");
     } else {
@@ -202,5 +210,5 @@ static void obey(char **given) {
 void begin(char **stack) {
     long count = (long)stack[0];
     obey(stack + (count == 0 ? 1 : 2));
-    end(is_refused ? REFUSED : ANSWERED);
+    end(is_wrong ? REFUSED : ANSWERED);
 }

@@ -22,7 +22,7 @@ JOBS = ROOM / "jobs"  # a folder for each crate that is being proved, in which r
 SHARED = ("rlib", "stamp", "obj", "bin")  # what rt leaves for the crates above
 LISTING = "esr_listing"
 # The command's words, each with the program that it asks for; without one of them it is the listing.
-COMMANDS = {"records": "esr_records", "number": "esr_number", "entry": "esr_entry"}
+COMMANDS = {"records": "esr_records", "number": "esr_number", "entry": "esr_entry", "walk": "esr_walk"}
 PROGRAMS = (LISTING, *COMMANDS.values())
 STDERR = 2
 TURN = 0.2  # seconds between two looks at a build

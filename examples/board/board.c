@@ -62,9 +62,7 @@ int main(void) {
     say("start, entries ");
     say_number(count, 10);
     say("\n");
-    for (size_t i = 0; i < count; i++) {
-        boot(flash + i * ENTRY, BLOCK - i * ENTRY);
-    }
+    boot_block(flash, BLOCK);
     if (count == 0) {
         __asm__ volatile("brk #0x1234");
     }

@@ -1,5 +1,5 @@
 -- Each promise of this crate decides its answer: it says what the answer is, and what the lent array holds then.
-use Rattle.capi.specs.Promises.{BinaryFilled, RecordsFilled, EntryAnswered, LineFilled, ListingFilled, MessageFilled, NumberAnswered, TextFilled, ValueFilled}
+use Rattle.capi.specs.Promises.{BinaryFilled, RecordsFilled, EntryAnswered, LineFilled, ListingFilled, MessageFilled, NumberAnswered, TextFilled, ValueFilled, WalkAnswered}
 use Rattle.promise.proofs.Laws.{same}
 use Rattle.promise.specs.Promise.{Decides}
 
@@ -29,3 +29,6 @@ esr-parse-number-decides s a b = same
 
 pub esr-read-entry-decides : Decides EntryAnswered
 esr-read-entry-decides s a b = same
+
+pub esr-walk-decides : Decides WalkAnswered
+esr-walk-decides (block, before) a b = same

@@ -9,6 +9,8 @@ use Rattle.refusals.specs.declared.Refusal.{Refusal}
 use Rattle.capi.specs.declared.EntryAnswer.{EntryAnswer}
 use Rattle.capi.specs.declared.Filled.{Filled}
 use Rattle.capi.specs.declared.NumberAnswer.{NumberAnswer}
+use Rattle.capi.specs.declared.WalkAnswer.{WalkAnswer}
+use Rattle.walk.specs.declared.Walked.{Walked}
 
 -- the number of a refusal, 0 where nothing is refused; what it carries; the field that it names; how many slots or bytes are filled
 abbrev pub filledOf : Refusal → ℕ → Filled
@@ -36,4 +38,18 @@ entryAnswer s =
       refusal = refusalNumber (entryOf s .refusal);
       start = entryOf s .refusal .start;
       width = entryOf s .refusal .width;
+    }
+
+-- the answer of a walk; the refusal of the bad entry that ended it is told by its number
+unfoldable pub walkAnswer : Walked → WalkAnswer
+walkAnswer w =
+    record {
+      carried = w .refusal .carries;
+      entries = w .entries;
+      decoded = w .decoded;
+      offset = w .offset;
+      ended = refusalNumber (w .ended);
+      refusal = refusalNumber (w .refusal);
+      start = w .refusal .start;
+      width = w .refusal .width;
     }

@@ -6,12 +6,14 @@ use mathlib.Core.Path.{_≡_}
 use Rattle.listing.specs.Requested.{recordLine, listingOf}
 use Rattle.written.specs.Requested.{valueString, binaryString, messageOf}
 use Rattle.texts.specs.Pool.{bytesAt}
-use Rattle.capi.specs.Answers.{numberAnswer, entryAnswer}
+use Rattle.capi.specs.Answers.{numberAnswer, entryAnswer, walkAnswer}
 use Rattle.capi.specs.Buffers.{filling, filledWith}
 use Rattle.capi.specs.Words.{decoding}
 use Rattle.capi.specs.declared.EntryAnswer.{EntryAnswer}
 use Rattle.capi.specs.declared.Filled.{Filled}
 use Rattle.capi.specs.declared.NumberAnswer.{NumberAnswer}
+use Rattle.capi.specs.declared.WalkAnswer.{WalkAnswer}
+use Rattle.walk.specs.Walks.{walking}
 
 -- the records of a value in the front of the caller's slots
 abbrev pub RecordsFilled : ℕ × List (List ℕ) → Filled × List (List ℕ) → Type 0
@@ -45,3 +47,7 @@ NumberAnswered s r = r ≡ numberAnswer s
 -- the numbers of an entry, and the offset of its body in the block
 abbrev pub EntryAnswered : List ℕ → EntryAnswer → Type 0
 EntryAnswered s r = r ≡ entryAnswer s
+
+-- the walk over a block, and the caller's run afterwards: the steps in its front, or as it was
+abbrev pub WalkAnswered : List ℕ × List ℕ → WalkAnswer × List ℕ → Type 0
+WalkAnswered (block, before) r = r ≡ (walkAnswer (walking block before .0), walking block before .1)

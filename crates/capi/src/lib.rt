@@ -5,7 +5,7 @@ ghost use Prim.Native.Nat.{_≤_};
 ghost use Rattle.capi.specs.Answers.{filledOf};
 ghost use Rattle.capi.specs.Buffers.{front};
 ghost use Rattle.capi.specs.Words.{wordsOf, allWords};
-ghost use Rattle.capi.specs.Promises.{BinaryFilled, RecordsFilled, EntryAnswered, LineFilled, ListingFilled, MessageFilled, NumberAnswered, TextFilled, ValueFilled};
+ghost use Rattle.capi.specs.Promises.{BinaryFilled, RecordsFilled, EntryAnswered, LineFilled, ListingFilled, MessageFilled, NumberAnswered, TextFilled, ValueFilled, WalkAnswered};
 ghost use Rattle.records.specs.Sets.{setRoom};
 ghost use Rattle.refusals.specs.Refusals.{passed};
 ghost use Rattle.texts.specs.Pool.{bytesAt};
@@ -45,6 +45,19 @@ pub struct EntryAnswer {
     pub body: usize,
     pub length: usize,
     pub sequence: u16,
+    pub refusal: u8,
+    pub start: u8,
+    pub width: u8,
+}
+
+// Where a walk ended, and the number of the refusal of the bad entry that ended it, which carries and names nothing.
+#[repr(C)]
+pub struct WalkAnswer {
+    pub carried: u64,
+    pub entries: usize,
+    pub decoded: usize,
+    pub offset: usize,
+    pub ended: u8,
     pub refusal: u8,
     pub start: u8,
     pub width: u8,
@@ -212,6 +225,25 @@ pub extern "C" fn esr_read_entry(block: &[u8]) -> EntryAnswer
         body: body_start(refusal),
         length: body.len(),
         sequence: numbers.sequence,
+        refusal: refusal.number(),
+        start: refusal.start,
+        width: refusal.width,
+    }
+}
+
+#[no_mangle]
+pub extern "C" fn esr_walk(block: &[u8], steps: &mut [u16]) -> WalkAnswer
+    ensures { λ r. ⌜ WalkAnswered (now (block .entry), now (steps .entry)) (r, now (steps .exit)) ⌝ }
+{
+    let walked = walk::walk(block, steps);
+    let refusal = walked.refusal;
+    let ended = walked.ended;
+    WalkAnswer {
+        carried: refusal.carries,
+        entries: walked.entries,
+        decoded: walked.decoded,
+        offset: walked.offset,
+        ended: ended.number(),
         refusal: refusal.number(),
         start: refusal.start,
         width: refusal.width,
