@@ -2,10 +2,14 @@
 use mathlib.Core.Path.{_≡_, refl, sym, ap, _∙_}
 use mathlib.Core.Logic.{_⊎_, inl, inr}
 use mathlib.Core.Bool.{Bool, true, false, cond}
-use Prim.Native.Nat.{ℕ}
+use mathlib.Core.List.{List, _∷_, _++_}
+use Prim.Native.Nat.{ℕ, suc, _^_, _<_}
+use native.Mathlib.Nat.{zero-add}
 use native.Mathlib.Omega.{arith}
+use lib.ListN.{length}
+use borrow.Author.Tests.{ne-eqb}
 use Rattle.refusals.specs.Refusals.{refusalNumber, carrying, reservedBits}
-use Rattle.refusals.specs.declared.Reason.the-variants.{InvalidRes0, InvalidEc}
+use Rattle.refusals.specs.declared.Reason.the-variants.{InvalidEc}
 use Rattle.records.specs.Bits.{fieldOf}
 use Rattle.records.specs.Kinds.{kindOf}
 use Rattle.records.specs.Rows.{meets, refusalOf}
@@ -13,6 +17,9 @@ use Rattle.tables.specs.Tables.{reserved, layouts}
 use Rattle.esr.specs.Decode.{refused, classOf, classAnswer, answerOf}
 use Rattle.esr.specs.Promises.{Decoded}
 use Rattle.esr.specs.declared.Answer.{Answer}
+use Rattle.entry.specs.Entries.{entryBytes}
+use Rattle.walk.proofs.Theorems.{readAs, one-read}
+use Rattle.walk.specs.Walks.{decodedIn, entriesOf}
 use Rattle.reading.specs.Reading.{HasBits}
 use Rattle.reading.proofs.HasBits.{bits-is, part, inner}
 use Rattle.reading.proofs.Reading.{refused-is}
@@ -39,3 +46,21 @@ torn-lower esr r d o = by (meets esr reserved) refl
     by : (b : Bool) → meets esr reserved ≡ b → (refusalNumber (r .refusal) ≡ 1) ⊎ (refusalNumber (r .refusal) ≡ 2)
     by true e = inr (ap refusalNumber (refused-is r (carrying InvalidEc (classOf esr)) (d ∙ ap (λ (b : Bool). cond b (classAnswer layouts esr) (refused (refusalOf esr reserved))) e ∙ unserved)))
     by false e = inl (ap refusalNumber (refused-is r (refusalOf esr reserved) (d ∙ ap (λ (b : Bool). cond b (classAnswer layouts esr) (refused (refusalOf esr reserved))) e)))
+
+-- In a fault block an entry whose value was torn, either half of it, is read and does not decode (#104): it is counted as an entry and not among those that
+-- decode, whatever follows.
+module _ (sequence esr : ℕ) (rest : List ℕ) (small : sequence < 256 ^ 2) (fits : esr < 256 ^ 8) (torn : HasBits esr 32 32 0xFFFFFFFF ⊎ HasBits esr 0 32 0xFFFFFFFF) where
+  torn-refused : HasBits esr 32 32 0xFFFFFFFF ⊎ HasBits esr 0 32 0xFFFFFFFF → refusalNumber (answerOf esr .refusal) ≡ 0 → ⊥
+  torn-refused (inl o) z = omega (arith, sym (ap refusalNumber (torn-upper esr (answerOf esr) refl o)) ∙ z)
+  torn-refused (inr o) z = by (torn-lower esr (answerOf esr) refl o)
+    where
+      by : (refusalNumber (answerOf esr .refusal) ≡ 1) ⊎ (refusalNumber (answerOf esr .refusal) ≡ 2) → ⊥
+      by (inl e) = omega (arith, sym e ∙ z)
+      by (inr e) = omega (arith, sym e ∙ z)
+
+  pub torn-counted : let block : List ℕ = entryBytes sequence esr ++ rest in
+      (length (entriesOf block) ≡ suc (length (entriesOf rest))) × (decodedIn (entriesOf block) ≡ decodedIn (entriesOf rest))
+  unfolding decodedIn
+  torn-counted =
+      let all : entriesOf (entryBytes sequence esr ++ rest) ≡ readAs (sequence, esr) ∷ entriesOf rest = one-read sequence esr rest small fits in
+      (ap length all, ap decodedIn all ∙ rw (ne-eqb (refusalNumber (answerOf esr .refusal)) 0 (torn-refused torn)) (zero-add (decodedIn (entriesOf rest))))

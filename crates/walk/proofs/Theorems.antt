@@ -2,7 +2,7 @@
 -- after another the steps say how many are lost, and where.
 use Prim.Native.Nat.{ℕ, zero, suc, _+_, _-_, _*_, _%_, _^_, _≤_, _<_}
 use mathlib.Core.Bool.{true}
-use mathlib.Core.List.{List, [], _∷_, _++_, append-nil, map}
+use mathlib.Core.List.{List, [], _∷_, _++_, append-assoc, append-nil, map}
 use mathlib.Core.Path.{_≡_, refl, sym, ap, ap₂, _∙_}
 use native.Mathlib.Omega.{arith}
 use lib.ListN.{length, getD, drop, replicate, length-append, length-drop, length-replicate}
@@ -128,15 +128,21 @@ Fit ((sequence, esr) ∷ more) = (sequence < 256 ^ 2) × (esr < 256 ^ 8) × Fit 
 abbrev pub readAs : ℕ × ℕ → Entry
 readAs (sequence, esr) = record { esr = esr; refusal = noRefusal; sequence = sequence }
 
+pub one-read : (sequence esr : ℕ) (rest : List ℕ) → sequence < 256 ^ 2 → esr < 256 ^ 8
+    → entriesOf (entryBytes sequence esr ++ rest) ≡ readAs (sequence, esr) ∷ entriesOf rest
+unfolding written
+one-read sequence esr rest small fits =
+    let s : List ℕ = entryBytes sequence esr ++ rest in
+    let read = written-is-read sequence esr rest small fits in
+    let free : reasonNumber (judged s) ≡ 0 = sym (ap refusalNumber (refusal-is s)) ∙ ap (λ (e : Entry). refusalNumber (e .refusal)) read in
+    entries-more s free ∙ ap (λ (e : Entry). e ∷ entriesOf rest) read
+
 pub written-read : (es : List (ℕ × ℕ)) (rest : List ℕ) → Fit es → entriesOf (blockBytes es ++ rest) ≡ map readAs es ++ entriesOf rest
-unfolding blockBytes written
+unfolding blockBytes
 written-read [] rest fit = refl
 written-read ((sequence, esr) ∷ more) rest fit =
-    let t : List ℕ = blockBytes more ++ rest in
-    let s : List ℕ = entryBytes sequence esr ++ t in
-    let read = written-is-read sequence esr t (fit .0) (fit .1) in
-    let free : reasonNumber (judged s) ≡ 0 = sym (ap refusalNumber (refusal-is s)) ∙ ap (λ (e : Entry). refusalNumber (e .refusal)) read in
-    entries-more s free ∙ ap₂ (_∷_) read (written-read more rest (fit .2))
+    rw (append-assoc (entryBytes sequence esr) (blockBytes more) rest)
+    (one-read sequence esr (blockBytes more ++ rest) (fit .0) (fit .1) ∙ ap (λ (es : List Entry). readAs (sequence, esr) ∷ es) (written-read more rest (fit .2)))
 
 sequences-read : (es : List (ℕ × ℕ)) → sequences (map readAs es ++ []) ≡ map (λ (e : ℕ × ℕ). e .0) es
 sequences-read [] = refl
