@@ -50,7 +50,7 @@ static inline void boot(const uint8_t *block, size_t length) {
 }
 
 static inline void say_step(uint16_t skipped) {
-    if (skipped == UINT16_MAX) {
+    if (skipped == ESR_SAME_SEQUENCE) {
         say("same sequence\n");
     } else if (skipped != 0) {
         say("lost ");

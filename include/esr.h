@@ -162,10 +162,13 @@ esr_entry esr_read_entry(const uint8_t *block, size_t length);
 #define ESR_ENTRY_SIZE 13
 #define ESR_STEPS_MAX 5040
 
+/* The step to an entry with an equal number: nothing was lost, and one was written twice. */
+#define ESR_SAME_SEQUENCE 65535
+
 /* Walks over a block of entries, which stand one after another from its front, each ESR_ENTRY_SIZE bytes. entries is how many were read, decoded how many of their values
    esr_decode accepts. The walk ends at the end of the block, at two bytes 0xFF 0xFF at an entry's place, or at the first bad entry: offset says where, and
    ended is the refusal of that entry, 14, 15 or 16, or 0 where none is bad. A single byte left at the end is a bad entry. The front of the caller's array gets for each
-   step from one entry to the next how many sequence numbers were skipped, where after 65535 comes 0: 0 where none is lost, and 65535 where the number is the same.
+   step from one entry to the next how many sequence numbers were skipped, where after 65535 comes 0: 0 where none is lost, and ESR_SAME_SEQUENCE where the number is the same.
    The places after the steps, one less than there are entries, stay as they were. A block of more than 65536 bytes is refused by 20; then an array that has fewer places than
    there are steps by 11, which carries the places needed. A refusal leaves the array as it was, and the other members are 0. */
 esr_walked esr_walk(const uint8_t *block, size_t length, uint16_t *steps, size_t places);
