@@ -106,24 +106,26 @@ def job(crate, variables):
         return subprocess.Popen(["rt", "check", crate], cwd=top, stdin=subprocess.DEVNULL, stdout=said, stderr=said, start_new_session=True, env=os.environ | variables)
 
 
+def end(number, running):
+    """Ends every rt, and all that they started, then this, by the signal. rt ignores an interrupt, and would go on unseen."""
+    for run in running.values():
+        with suppress(ProcessLookupError):
+            os.killpg(run.pid, signal.SIGTERM)
+    if is_watched():
+        show("")
+    retarget.forget_shadows()
+    signal.signal(number, signal.SIG_DFL)
+    os.kill(os.getpid(), number)
+
+
 @contextmanager
-def ending(running):
-    """While crates are proved, a signal that ends this ends every rt too, and all that they started: rt ignores an interrupt, and would go on unseen."""
-
-    def end(number, _):
-        for run in running.values():
-            with suppress(ProcessLookupError):
-                os.killpg(run.pid, signal.SIGTERM)
-        if is_watched():
-            show("")
-        retarget.forget_shadows()
-        signal.signal(number, signal.SIG_DFL)
-        os.kill(os.getpid(), number)
-
+def catching():
+    """The signals that came, of those that would end this: a build looks at them between two starts, so that none is begun that it does not know of."""
+    came = []
     numbers = [number for number in (signal.SIGHUP, signal.SIGINT, signal.SIGTERM) if signal.getsignal(number) is not signal.SIG_IGN]
-    kept = {number: signal.signal(number, end) for number in numbers}
+    kept = {number: signal.signal(number, lambda number, _: came.append(number)) for number in numbers}
     try:
-        yield
+        yield came
     finally:
         for number, handler in kept.items():
             signal.signal(number, handler)
@@ -146,7 +148,7 @@ def prove(program):
     """Proves a program and what it rests on, each crate as soon as its needs are proved, and builds it; answers the status of the first rt that failed, or 0."""
     crates, began = to_prove(program), time.time()
     left, done, running, status = list(crates), [], {}, 0
-    with LOG.open("wb") as log, ending(running):
+    with LOG.open("wb") as log, catching() as came:
         while running or (left and not status):
             ready = [crate for crate in left if not status and set(crates[crate]) <= set(done)]
             for crate in ready[: processors() - len(running)]:
@@ -155,6 +157,8 @@ def prove(program):
             if is_watched():
                 show(progress(crates, list(running), done, began))
             time.sleep(TURN)
+            if came:
+                end(came[0], running)
             for crate in [crate for crate, run in running.items() if run.poll() is not None]:
                 ended = running.pop(crate)
                 log.write((JOBS / crate / "said").read_bytes())
