@@ -39,6 +39,8 @@ enum {
     ESR_BAD_LENGTH = 15,       /* an entry's length is not 11 */
     ESR_BAD_VERSION = 16,      /* an entry's version is not 1 */
     /* 17 is unused and is not given again: it stood for SAS or TI above 3, and both are two bits wide. */
+    ESR_BAD_TABLE = 18,        /* a table of counts that has not exactly 64 places */
+    ESR_LONG_RUN = 19,         /* a run of 2^32 values or more */
     ESR_LONG_BLOCK = 20        /* a block of more than 65,536 bytes */
 };
 

@@ -9,13 +9,13 @@ use Rattle.promise.specs.Member.{member}
 use Rattle.promise.proofs.Tests.{of-member}
 use Rattle.refusals.specs.Refusals.{reasonNumber, numbers, refusalNumber}
 use Rattle.refusals.specs.declared.Reason.{Reason}
-use Rattle.refusals.specs.declared.Reason.the-variants.{None, InvalidRes0, InvalidEc, InvalidFsc, InvalidSet, InvalidAet, InvalidAm, InvalidLd64bIss, Empty, InvalidDigit, PosOverflow, ShortBuffer, BadField, BadIndex, ShortEntry, BadLength, BadVersion, LongBlock}
+use Rattle.refusals.specs.declared.Reason.the-variants.{None, InvalidRes0, InvalidEc, InvalidFsc, InvalidSet, InvalidAet, InvalidAm, InvalidLd64bIss, Empty, InvalidDigit, PosOverflow, ShortBuffer, BadField, BadIndex, ShortEntry, BadLength, BadVersion, BadTable, LongRun, LongBlock}
 use Rattle.refusals.specs.declared.Refusal.{Refusal}
 
 abbrev reasons : List Reason
 reasons =
     None ∷ InvalidRes0 ∷ InvalidEc ∷ InvalidFsc ∷ InvalidSet ∷ InvalidAet ∷ InvalidAm ∷ InvalidLd64bIss ∷ Empty ∷ InvalidDigit ∷ PosOverflow ∷
-    ShortBuffer ∷ BadField ∷ BadIndex ∷ ShortEntry ∷ BadLength ∷ BadVersion ∷ LongBlock ∷ []
+    ShortBuffer ∷ BadField ∷ BadIndex ∷ ShortEntry ∷ BadLength ∷ BadVersion ∷ BadTable ∷ LongRun ∷ LongBlock ∷ []
 
 -- the reason of a number, and None where no reason has it
 abbrev reasonIn : List Reason → ℕ → Reason
@@ -44,6 +44,8 @@ known BadIndex = (tt, refl)
 known ShortEntry = (tt, refl)
 known BadLength = (tt, refl)
 known BadVersion = (tt, refl)
+known BadTable = (tt, refl)
+known LongRun = (tt, refl)
 known LongBlock = (tt, refl)
 
 pub number-listed : (f : Refusal) → List·Memᴰ (refusalNumber f) numbers

@@ -20,6 +20,8 @@ pub enum Reason {
     ShortEntry,
     BadLength,
     BadVersion,
+    BadTable,
+    LongRun,
     LongBlock,
 }
 
@@ -46,6 +48,8 @@ impl Reason {
             Reason::ShortEntry => 14,
             Reason::BadLength => 15,
             Reason::BadVersion => 16,
+            Reason::BadTable => 18,
+            Reason::LongRun => 19,
             Reason::LongBlock => 20,
         }
     }
