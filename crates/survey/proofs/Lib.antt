@@ -1,0 +1,5 @@
+pub mod Laws
+pub mod Classes
+pub mod Answers
+pub mod Theorems
+pub mod Decides
