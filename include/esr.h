@@ -113,6 +113,15 @@ typedef struct esr_walked {
     uint8_t width;
 } esr_walked;
 
+/* How many of the values each refusal refused: refused[0] by ESR_INVALID_RES0, and so on to refused[6] by ESR_INVALID_LD64B_ISS. */
+typedef struct esr_surveyed {
+    uint64_t carried;
+    uint32_t refused[7];
+    uint8_t refusal;
+    uint8_t start;
+    uint8_t width;
+} esr_surveyed;
+
 /* Decodes a value into the front of the caller's array: RES0, ISS2, EC, IL and ISS, then ISS's own records, from high bits to low.
    First bits 37 to 63 must be 0, then the class is looked up, then its layout's checks in their order; the first failure answers, by 1 to 7, and
    where that is a reserved field, start and width name it. Then an array that has fewer slots than there are records is refused by 11, which
@@ -175,6 +184,11 @@ esr_entry esr_read_entry(const uint8_t *block, size_t length);
    there are steps by 11, which carries the places needed. A refusal leaves the array as it was, and the other members are 0. */
 esr_walked esr_walk(const uint8_t *block, size_t length, uint16_t *steps, size_t places);
 
+/* Counts a run of values: each of the 64 counts is set to how many of them esr_decode accepts and are of that class, whatever it held, and the answer has how
+   many are refused, by number. All counts together are the number of values, and those of a run of two parts are the sums of those of the parts. 18 where the
+   table has not exactly 64 places, then 19 for 2^32 values or more, of which none is read. A refusal leaves the table as it was, and its counts are 0. */
+esr_surveyed esr_survey(const uint64_t *values, size_t length, uint32_t *counts, size_t places);
+
 /* What the archive takes for granted of the compiler. A false line does not compile. */
 #define ESR_HOLDS(name, fact) typedef char esr_holds_##name[(fact) ? 1 : -1]
 ESR_HOLDS(record, sizeof(esr_record) == 16 && offsetof(esr_record, value) == 0);
@@ -190,6 +204,8 @@ ESR_HOLDS(entry_bits, offsetof(esr_entry, start) == 35 && offsetof(esr_entry, wi
 ESR_HOLDS(walked, sizeof(esr_walked) == 40 && offsetof(esr_walked, entries) == 8 && offsetof(esr_walked, decoded) == 16);
 ESR_HOLDS(walked_rest, offsetof(esr_walked, offset) == 24 && offsetof(esr_walked, ended) == 32 && offsetof(esr_walked, refusal) == 33);
 ESR_HOLDS(walked_bits, offsetof(esr_walked, start) == 34 && offsetof(esr_walked, width) == 35);
+ESR_HOLDS(surveyed, sizeof(esr_surveyed) == 40 && offsetof(esr_surveyed, refused) == 8 && offsetof(esr_surveyed, refusal) == 36);
+ESR_HOLDS(surveyed_bits, offsetof(esr_surveyed, start) == 37 && offsetof(esr_surveyed, width) == 38);
 #undef ESR_HOLDS
 #if defined(__BYTE_ORDER__) && __BYTE_ORDER__ != __ORDER_LITTLE_ENDIAN__
 #error "a slot holds name, text, long_name, start, width and mark as one 64-bit word, whose bytes lie in this order on a little-endian machine alone"

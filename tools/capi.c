@@ -392,6 +392,80 @@ static void check_walks(void) {
     HOLDS(steps[0] == 0 && marked((const uint8_t *)steps, 2, sizeof steps));
 }
 
+#define CLASSES 64
+#define MARKED (sizeof values / sizeof values[0])
+/* More places than a table may have, and one that no call is told of. */
+static uint32_t counts[CLASSES + 2];
+/* The ISS of every marked value in every class, then the marked values themselves. */
+static uint64_t run[(CLASSES + 1) * MARKED];
+
+static void fill_run(void) {
+    for (size_t i = 0; i < MARKED; i++) {
+        for (size_t class = 0; class < CLASSES; class++) {
+            run[i * CLASSES + class] = (uint64_t)class << 26 | (values[i].esr & 0x1FFFFFF);
+        }
+        run[MARKED * CLASSES + i] = values[i].esr;
+    }
+}
+
+static int surveys(esr_surveyed answer, uint8_t refusal, const uint32_t *refused_by) {
+    int fact = answer.refusal == refusal && answer.carried == 0 && answer.start == 0 && answer.width == 0;
+    for (size_t i = 0; i < 7; i++) {
+        fact = fact && answer.refused[i] == (refused_by == NULL ? 0 : refused_by[i]);
+    }
+    return fact;
+}
+
+static void mark_counts(void) {
+    for (size_t i = 0; i < sizeof counts / sizeof counts[0]; i++) {
+        counts[i] = 0xA5A5A5A5;
+    }
+}
+
+/* Whether the counts from a place on are as `mark_counts` left them. */
+static int counts_marked(size_t from) {
+    return marked((const uint8_t *)counts, from * sizeof counts[0], sizeof counts);
+}
+
+/* What the survey of a run must answer, by esr_decode. */
+static void check_survey(size_t length) {
+    uint32_t by_class[CLASSES] = {0};
+    uint32_t by_refusal[7] = {0};
+    for (size_t i = 0; i < length; i++) {
+        uint8_t refusal = esr_decode(run[i], slots.records, ROOM).refusal;
+        if (refusal == ESR_ACCEPTED) {
+            by_class[run[i] >> 26 & 0x3F]++;
+        } else {
+            by_refusal[refusal - 1]++;
+        }
+    }
+    mark_counts();
+    HOLDS(surveys(esr_survey(run, length, counts, CLASSES), ESR_ACCEPTED, by_refusal));
+    HOLDS(same((const uint8_t *)counts, (const uint8_t *)by_class, sizeof by_class));
+    HOLDS(counts_marked(CLASSES));
+}
+
+static void check_surveys(void) {
+    size_t length = sizeof run / sizeof run[0];
+    fill_run();
+    for (size_t part = 0; part <= length; part += 1 + part / 4) {
+        check_survey(part);
+    }
+    check_survey(length);
+    /* 18 comes before 19, and no value is read where there are too many: the run that is lent here has not so many. */
+    static const size_t too_many = (size_t)1 << 32;
+    mark_counts();
+    for (size_t places = 0; places <= CLASSES + 1; places++) {
+        if (places != CLASSES) {
+            HOLDS(surveys(esr_survey(run, length, counts, places), ESR_BAD_TABLE, NULL));
+            HOLDS(surveys(esr_survey(run, too_many, counts, places), ESR_BAD_TABLE, NULL));
+        }
+    }
+    HOLDS(surveys(esr_survey(run, too_many, counts, CLASSES), ESR_LONG_RUN, NULL));
+    HOLDS(surveys(esr_survey(run, ~(size_t)0 / sizeof run[0], counts, CLASSES), ESR_LONG_RUN, NULL));
+    HOLDS(counts_marked(0));
+}
+
 /* The stack below a call is painted, and what is no longer paint afterwards was used; the frame of the small function that makes the call
    counts too. This file is compiled without a red zone, so that nothing of its own lies there. */
 #define PAINTED 65536
@@ -417,6 +491,12 @@ static void call_parse_number(void) {
     static esr_number number;
     number = esr_parse_number((const uint8_t *)"0x0123456789abcdef", (size_t)asked % 19);
     sink = &number;
+}
+
+static void call_survey(void) {
+    static esr_surveyed surveyed;
+    surveyed = esr_survey(run, (size_t)asked, counts, CLASSES);
+    sink = &surveyed;
 }
 
 static void call_read_entry(void) {
@@ -479,8 +559,7 @@ static uint64_t counted(size_t i) {
 }
 
 int main(void) {
-    size_t marked_values = sizeof values / sizeof values[0];
-    for (size_t i = 0; i < marked_values; i++) {
+    for (size_t i = 0; i < MARKED; i++) {
         check_lengths(i);
         check_listings(i);
     }
@@ -492,21 +571,23 @@ int main(void) {
     check_numbers();
     check_entries();
     check_walks();
+    check_surveys();
     if (failures != 0) {
         return 1;
     }
     say("checks ");
     say_number(checks, 10);
     say("\n");
-    measure("esr_decode", call_decode, syndrome, 64 * marked_values);
+    measure("esr_decode", call_decode, syndrome, CLASSES * MARKED);
     measure_writer("esr_text", write_text, counted, 1024);
-    measure_writer("esr_listing", write_listing, syndrome, 64 * marked_values);
-    measure_writer("esr_record_line", write_record_line, syndrome, 64 * marked_values);
+    measure_writer("esr_listing", write_listing, syndrome, CLASSES * MARKED);
+    measure_writer("esr_record_line", write_record_line, syndrome, CLASSES * MARKED);
     measure_writer("esr_value_string", esr_value_string, counted, 66);
     measure_writer("esr_value_binary_string", esr_value_binary_string, counted, 66);
     measure_writer("esr_message", write_message, counted, 9);
     measure("esr_parse_number", call_parse_number, counted, 19);
     measure("esr_read_entry", call_read_entry, counted, sizeof block + 1);
     measure("esr_walk", call_walk, counted, sizeof walked_block + 1);
+    measure("esr_survey", call_survey, counted, CLASSES);
     return 0;
 }

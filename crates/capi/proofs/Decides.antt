@@ -1,5 +1,5 @@
 -- Each promise of this crate decides its answer: it says what the answer is, and what the lent array holds then.
-use Rattle.capi.specs.Promises.{BinaryFilled, RecordsFilled, EntryAnswered, LineFilled, ListingFilled, MessageFilled, NumberAnswered, TextFilled, ValueFilled, WalkAnswered}
+use Rattle.capi.specs.Promises.{BinaryFilled, RecordsFilled, EntryAnswered, LineFilled, ListingFilled, MessageFilled, NumberAnswered, SurveyAnswered, TextFilled, ValueFilled, WalkAnswered}
 use Rattle.promise.proofs.Laws.{same}
 use Rattle.promise.specs.Promise.{Decides}
 
@@ -32,3 +32,6 @@ esr-read-entry-decides s a b = same
 
 pub esr-walk-decides : Decides WalkAnswered
 esr-walk-decides (block, before) a b = same
+
+pub esr-survey-decides : Decides SurveyAnswered
+esr-survey-decides (values, before) a b = same

@@ -6,9 +6,11 @@ use Rattle.entry.specs.Entries.{entryOf, bodyOf, bodyStart}
 use Rattle.number.specs.Numbers.{numberOf}
 use Rattle.refusals.specs.Refusals.{refusalNumber}
 use Rattle.refusals.specs.declared.Refusal.{Refusal}
+use Rattle.survey.specs.declared.Tally.{Tally}
 use Rattle.capi.specs.declared.EntryAnswer.{EntryAnswer}
 use Rattle.capi.specs.declared.Filled.{Filled}
 use Rattle.capi.specs.declared.NumberAnswer.{NumberAnswer}
+use Rattle.capi.specs.declared.SurveyAnswer.{SurveyAnswer}
 use Rattle.capi.specs.declared.WalkAnswer.{WalkAnswer}
 use Rattle.walk.specs.declared.Walked.{Walked}
 
@@ -52,4 +54,14 @@ walkAnswer w =
       refusal = refusalNumber (w .refusal);
       start = w .refusal .start;
       width = w .refusal .width;
+    }
+
+abbrev pub surveyAnswer : Tally → SurveyAnswer
+surveyAnswer t =
+    record {
+      carried = t .refusal .carries;
+      refused = t .refused;
+      refusal = refusalNumber (t .refusal);
+      start = t .refusal .start;
+      width = t .refusal .width;
     }

@@ -5,13 +5,15 @@ use mathlib.Core.List.{List}
 use mathlib.Core.Path.{_≡_}
 use Rattle.listing.specs.Requested.{recordLine, listingOf}
 use Rattle.written.specs.Requested.{valueString, binaryString, messageOf}
+use Rattle.survey.specs.Surveys.{surveyOf}
 use Rattle.texts.specs.Pool.{bytesAt}
-use Rattle.capi.specs.Answers.{numberAnswer, entryAnswer, walkAnswer}
+use Rattle.capi.specs.Answers.{numberAnswer, entryAnswer, surveyAnswer, walkAnswer}
 use Rattle.capi.specs.Buffers.{filling, filledWith}
 use Rattle.capi.specs.Words.{decoding}
 use Rattle.capi.specs.declared.EntryAnswer.{EntryAnswer}
 use Rattle.capi.specs.declared.Filled.{Filled}
 use Rattle.capi.specs.declared.NumberAnswer.{NumberAnswer}
+use Rattle.capi.specs.declared.SurveyAnswer.{SurveyAnswer}
 use Rattle.capi.specs.declared.WalkAnswer.{WalkAnswer}
 use Rattle.walk.specs.Walks.{walking}
 
@@ -51,3 +53,7 @@ EntryAnswered s r = r ≡ entryAnswer s
 -- the walk over a block, and the caller's run afterwards: the steps in its front, or as it was
 abbrev pub WalkAnswered : List ℕ × List ℕ → WalkAnswer × List ℕ → Type 0
 WalkAnswered (block, before) r = r ≡ (walkAnswer (walking block before .0), walking block before .1)
+
+-- the counts of a run of values, those by class in the caller's table
+abbrev pub SurveyAnswered : List ℕ × List ℕ → SurveyAnswer × List ℕ → Type 0
+SurveyAnswered (values, before) r = r ≡ (surveyAnswer (surveyOf values before .0), surveyOf values before .1)

@@ -5,7 +5,7 @@ ghost use Prim.Native.Nat.{_≤_};
 ghost use Rattle.capi.specs.Answers.{filledOf};
 ghost use Rattle.capi.specs.Buffers.{front};
 ghost use Rattle.capi.specs.Words.{wordsOf, allWords};
-ghost use Rattle.capi.specs.Promises.{BinaryFilled, RecordsFilled, EntryAnswered, LineFilled, ListingFilled, MessageFilled, NumberAnswered, TextFilled, ValueFilled, WalkAnswered};
+ghost use Rattle.capi.specs.Promises.{BinaryFilled, RecordsFilled, EntryAnswered, LineFilled, ListingFilled, MessageFilled, NumberAnswered, SurveyAnswered, TextFilled, ValueFilled, WalkAnswered};
 ghost use Rattle.records.specs.Sets.{setRoom};
 ghost use Rattle.refusals.specs.Refusals.{passed};
 ghost use Rattle.texts.specs.Pool.{bytesAt};
@@ -58,6 +58,16 @@ pub struct WalkAnswer {
     pub decoded: usize,
     pub offset: usize,
     pub ended: u8,
+    pub refusal: u8,
+    pub start: u8,
+    pub width: u8,
+}
+
+// How many values each of the refusals 1 to 7 refused, in their order.
+#[repr(C)]
+pub struct SurveyAnswer {
+    pub carried: u64,
+    pub refused: [u32; 7],
     pub refusal: u8,
     pub start: u8,
     pub width: u8,
@@ -244,6 +254,22 @@ pub extern "C" fn esr_walk(block: &[u8], steps: &mut [u16]) -> WalkAnswer
         decoded: walked.decoded,
         offset: walked.offset,
         ended: ended.number(),
+        refusal: refusal.number(),
+        start: refusal.start,
+        width: refusal.width,
+    }
+}
+
+#[no_mangle]
+pub extern "C" fn esr_survey(values: &[u64], counts: &mut [u32]) -> SurveyAnswer
+    ensures { λ r. ⌜ SurveyAnswered (now (values .entry), now (counts .entry)) (r, now (counts .exit)) ⌝ }
+{
+    let tally = survey::survey(values, counts);
+    let refusal = tally.refusal;
+    let refused = tally.refused;
+    SurveyAnswer {
+        carried: refusal.carries,
+        refused,
         refusal: refusal.number(),
         start: refusal.start,
         width: refusal.width,
