@@ -1,0 +1,4 @@
+pub mod Laws
+pub mod Decides
+pub mod Splitting
+pub mod Theorems

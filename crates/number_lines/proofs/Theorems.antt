@@ -1,0 +1,222 @@
+-- What the promises come to: however an input is cut into parts, the run holds the numbers of its first lines. By induction over the bytes: the state of a line
+-- is that of the bytes taken of it so far.
+use Prim.Native.Nat.{ℕ, suc, _+_, _-_, _≤_}
+use mathlib.Core.Bool.{Bool, true, false, cond, not}
+use mathlib.Core.List.{List, [], _∷_, _++_, append-assoc, append-nil}
+use mathlib.Core.Path.{_≡_, refl, sym, ap, _∙_}
+use native.Mathlib.Numerals.{add-one}
+use native.Mathlib.Omega.{arith}
+use lib.Dec.{T, eqb, ltb}
+use lib.ListN.{length, set, take, length-take}
+use lib.Seq.{sets, sets-eq, take-nil, take-at}
+use borrow.Author.Tests.{eqb-true, leb-true, lt-ltb}
+use Rattle.line_reader.specs.Lines.{lineFeed, oneLine}
+use Rattle.number.proofs.Laws.{either}
+use Rattle.number.proofs.Steps.{steps-number}
+use Rattle.number.proofs.Theorems.{open-text, steps-append}
+use Rattle.number.specs.Numbers.{numberOf}
+use Rattle.number.specs.Steps.{start, stepOf, stepsOf, finishOf, hasCharacter}
+use Rattle.number.specs.declared.Number.{Number}
+use Rattle.number.specs.declared.NumberState.{NumberState}
+use Rattle.number_lines.proofs.Laws.{end-full, end-none, end-number, last-none, last-open, same-places, some-place, stopped, take-full}
+use Rattle.number_lines.proofs.Splitting.{line-alone, line-and-rest, longer-line}
+use Rattle.number_lines.specs.Lines.{holdsNumber, joined, linesOf, noneOf, numbersOf}
+use Rattle.number_lines.specs.Runs.{endLine, Holds, isFull, noLines, onLine, takeFrom, takeLast, takeParts}
+use Rattle.number_lines.specs.declared.Lines.{Lines}
+use Rattle.number_lines.specs.declared.LinesPart.{LinesPart}
+use Rattle.promise.proofs.Tests.{is-true}
+use Rattle.refusals.specs.Refusals.{passed}
+
+-- what lines add to a run that has so many numbers and so many lines that held none
+record Added (numbers none : ℕ) (run : List ℕ) (lines : List (List ℕ)) (out : Lines × List ℕ) : Type 0 where
+  more : out .0 .numbers ≡ numbers + length (numbersOf lines)
+  bare : out .0 .none ≡ none + noneOf lines
+  stored : out .1 ≡ sets run numbers (numbersOf lines)
+
+-- how many lines it still takes
+abbrev left : ℕ → ℕ → List ℕ → ℕ
+left numbers none run = length run - (numbers + none)
+
+nothing-added : (l : Lines) (run : List ℕ) → Added (l .numbers) (l .none) run [] (l, run)
+unfolding numbersOf noneOf
+nothing-added l run = record { more = omega arith; bare = omega arith; stored = refl }
+
+-- The end of a line.
+
+module _ (l : Lines) (run : List ℕ) (h : isFull l (length run) ≡ false) where
+  -- what holds of the run with a number more, and of the run with a line more that held none, holds at the end of a line
+  end-by : (P : Lines × List ℕ → Type 0)
+      → (passed (finishOf (l .line) .refusal) ≡ true → P (record { line = start; numbers = l .numbers + 1; none = l .none }, set run (l .numbers) (finishOf (l .line) .value)))
+      → (passed (finishOf (l .line) .refusal) ≡ false → P (record { line = start; numbers = l .numbers; none = l .none + 1 }, run))
+      → P (endLine l run)
+  end-by P one other = by-test (passed (finishOf (l .line) .refusal)) refl
+    where
+      by-test : (b : Bool) → passed (finishOf (l .line) .refusal) ≡ b → P (endLine l run)
+      by-test true e = rw (end-number l run h e) (one e)
+      by-test false e = rw (end-none l run h e) (other e)
+
+  starts-again : endLine l run .0 .line ≡ start
+  starts-again = end-by (λ (r : Lines × List ℕ). r .0 .line ≡ start) (λ e. refl) (λ e. refl)
+
+  one-less : left (l .numbers) (l .none) run ≡ suc (left (endLine l run .0 .numbers) (endLine l run .0 .none) (endLine l run .1))
+  one-less =
+      let p = some-place l run h in
+      rw (same-places l run)
+      (end-by (λ (r : Lines × List ℕ). left (l .numbers) (l .none) run ≡ suc (length run - (r .0 .numbers + r .0 .none))) (λ e. omega arith) (λ e. omega arith))
+
+  -- the line and what follows it
+  line-added : (line : List ℕ) (lines : List (List ℕ)) (out : Lines × List ℕ) → finishOf (l .line) ≡ numberOf line
+      → Added (endLine l run .0 .numbers) (endLine l run .0 .none) (endLine l run .1) lines out
+      → Added (l .numbers) (l .none) run (line ∷ lines) out
+  unfolding numbersOf noneOf
+  line-added line lines out is =
+      end-by (λ (r : Lines × List ℕ). Added (r .0 .numbers) (r .0 .none) (r .1) lines out → Added (l .numbers) (l .none) run (line ∷ lines) out)
+      (λ e a.
+      let one : holdsNumber line ≡ true = ap (λ (n : Number). passed (n .refusal)) (sym is) ∙ e in
+      record {
+        more = rw one (omega (arith, a .more));
+        bare = rw one (a .bare);
+        stored = rw (one, ← is) (a .stored ∙ ap (λ (k : ℕ). sets (set run (l .numbers) (finishOf (l .line) .value)) k (numbersOf lines)) (add-one (l .numbers)));
+      })
+      (λ e a.
+      let other : holdsNumber line ≡ false = ap (λ (n : Number). passed (n .refusal)) (sym is) ∙ e in
+      record { more = rw other (a .more); bare = rw other (omega (arith, a .bare)); stored = rw other (a .stored) })
+
+-- The bytes of an input.
+
+-- what lines add to a run as it stands, as far as it takes them
+abbrev Adds : Lines → List ℕ → List (List ℕ) → Lines × List ℕ → Type 0
+Adds l run lines out = Added (l .numbers) (l .none) run (take (left (l .numbers) (l .none) run) lines) out
+
+-- the end of an input, after a part
+abbrev lastOf : LinesPart × List ℕ → Lines × List ℕ
+lastOf r = takeLast (r .0 .lines) (r .1)
+
+-- a run that is full is left as it is
+full-adds : (l : Lines) (run : List ℕ) (lines : List (List ℕ)) → isFull l (length run) ≡ true → Adds l run lines (takeLast l run)
+unfolding takeLast
+full-adds l run lines h =
+    let f = leb-true (length run) (l .numbers + l .none) h in
+    let none-left : left (l .numbers) (l .none) run ≡ 0 = omega arith in
+    rw none-left (either (Added (l .numbers) (l .none) run []) (hasCharacter (l .line .stage)) (rw (end-full l run h) (nothing-added l run)) (nothing-added l run))
+
+-- the line that is being read is that of the bytes taken of it
+abbrev Reads : Lines → List ℕ → Type 0
+Reads l line = T (oneLine line) × (l .line ≡ stepsOf start line)
+
+finished : (l : Lines) (line : List ℕ) → Reads l line → finishOf (l .line) ≡ numberOf line
+finished l line r = ap finishOf (r .1) ∙ steps-number line
+
+opened : (l : Lines) (line : List ℕ) → Reads l line → hasCharacter (l .line .stage) ≡ ltb 0 (length line)
+opened l line r = ap (λ (st : NumberState). hasCharacter (st .stage)) (r .1) ∙ open-text line
+
+one-byte-more : (l : Lines) (line : List ℕ) (b : ℕ) → Reads l line → eqb b lineFeed ≡ false → Reads (onLine l (stepOf (l .line) b)) (line ++ (b ∷ []))
+unfolding stepsOf
+one-byte-more l line b r n =
+    (longer-line line b (r .0) (is-true (ap not n)), ap (λ (st : NumberState). stepOf st b) (r .1) ∙ sym (steps-append start line (b ∷ [])))
+
+-- at the end of the input
+last-adds : (l : Lines) (run line : List ℕ) → isFull l (length run) ≡ false → Reads l line → Adds l run (linesOf line) (takeLast l run)
+unfolding linesOf
+last-adds l run [] h r = rw (last-none l run (opened l [] r), take-nil (left (l .numbers) (l .none) run)) (nothing-added l run)
+last-adds l run (b ∷ line) h r =
+    rw (last-open l run (opened l (b ∷ line) r ∙ lt-ltb 0 (length (b ∷ line)) (omega arith)), line-alone b line (r .0), one-less l run h, take-nil (left (endLine l run .0 .numbers) (endLine l run .0 .none) (endLine l run .1)))
+    (line-added l run h (b ∷ line) [] (endLine l run) (finished l (b ∷ line) r) (nothing-added (endLine l run .0) (endLine l run .1)))
+
+-- and from any byte of it on
+adds : (at : ℕ) (l : Lines) (run line w : List ℕ) → Reads l line → Adds l run (linesOf (line ++ w)) (lastOf (takeFrom l run at w))
+unfolding takeFrom stepsOf oneLine
+adds at l run line [] r = by-full (isFull l (length run)) refl
+  where
+    by-full : (f : Bool) → isFull l (length run) ≡ f → Adds l run (linesOf (line ++ [])) (takeLast l run)
+    by-full true h = full-adds l run (linesOf (line ++ [])) h
+    by-full false h = rw (append-nil line) (last-adds l run line h r)
+adds at l run line (b ∷ w) r =
+    by-full (isFull l (length run)) refl (λ e. adds (at + 1) (endLine l run .0) (endLine l run .1) [] w (tt, e))
+    (λ n. adds (at + 1) (onLine l (stepOf (l .line) b)) run (line ++ (b ∷ [])) w (one-byte-more l line b r n))
+  where
+    fed : LinesPart × List ℕ
+    fed = takeFrom (endLine l run .0) (endLine l run .1) (at + 1) w
+
+    stepped : LinesPart × List ℕ
+    stepped = takeFrom (onLine l (stepOf (l .line) b)) run (at + 1) w
+
+    by-feed : isFull l (length run) ≡ false
+        → Adds (endLine l run .0) (endLine l run .1) (linesOf w) (lastOf fed)
+        → (eqb b lineFeed ≡ false → Adds l run (linesOf ((line ++ (b ∷ [])) ++ w)) (lastOf stepped))
+        → (f : Bool) → eqb b lineFeed ≡ f → Adds l run (linesOf (line ++ (b ∷ w))) (lastOf (cond f fed stepped))
+    by-feed h feed byte true e =
+        rw (eqb-true b lineFeed e, line-and-rest line w (r .0), one-less l run h)
+        (line-added l run h line (take (left (endLine l run .0 .numbers) (endLine l run .0 .none) (endLine l run .1)) (linesOf w)) (lastOf fed) (finished l line r) feed)
+    by-feed h feed byte false e = rw (append-assoc line (b ∷ []) w) at (byte e)
+
+    by-full : (f : Bool) → isFull l (length run) ≡ f
+        → (endLine l run .0 .line ≡ start → Adds (endLine l run .0) (endLine l run .1) (linesOf w) (lastOf fed))
+        → (eqb b lineFeed ≡ false → Adds l run (linesOf ((line ++ (b ∷ [])) ++ w)) (lastOf stepped))
+        → Adds l run (linesOf (line ++ (b ∷ w))) (lastOf (cond f (stopped l run at) (cond (eqb b lineFeed) fed stepped)))
+    by-full true h feed byte = full-adds l run (linesOf (line ++ (b ∷ w))) h
+    by-full false h feed byte = by-feed h (feed (starts-again l run h)) byte (eqb b lineFeed) refl
+
+-- The parts of an input.
+
+-- where a run stands does not depend on the offset
+abbrev standsAt : LinesPart × List ℕ → Lines × List ℕ
+standsAt r = (r .0 .lines, r .1)
+
+-- two outcomes of one test
+both : {A B : Type 0} (R : A → B → Type 0) (t : Bool) {a b : A} {c d : B} → R a c → R b d → R (cond t a b) (cond t c d)
+both R true p q = p
+both R false p q = q
+
+any-offset : (at other : ℕ) (l : Lines) (run w : List ℕ) → standsAt (takeFrom l run at w) ≡ standsAt (takeFrom l run other w)
+unfolding takeFrom
+any-offset at other l run [] = refl
+any-offset at other l run (b ∷ w) =
+    let R : LinesPart × List ℕ → LinesPart × List ℕ → Type 0 = λ p q. standsAt p ≡ standsAt q in
+    both R (isFull l (length run)) refl
+    (both R (eqb b lineFeed) (any-offset (at + 1) (other + 1) (endLine l run .0) (endLine l run .1) w)
+    (any-offset (at + 1) (other + 1) (onLine l (stepOf (l .line) b)) run w))
+
+-- nor on where the input is cut
+abbrev Same : ℕ → List ℕ → LinesPart × List ℕ → LinesPart × List ℕ → Type 0
+Same at w whole cut = standsAt whole ≡ standsAt (takeFrom (cut .0 .lines) (cut .1) at w)
+
+in-parts : (at other : ℕ) (l : Lines) (run p q : List ℕ) → Same other q (takeFrom l run at (p ++ q)) (takeFrom l run at p)
+unfolding takeFrom
+in-parts at other l run [] q = any-offset at other l run q
+in-parts at other l run (b ∷ p) q =
+    by-full (isFull l (length run)) refl _ _
+    (both (Same other q) (eqb b lineFeed) (in-parts (at + 1) other (endLine l run .0) (endLine l run .1) p q)
+    (in-parts (at + 1) other (onLine l (stepOf (l .line) b)) run p q))
+  where
+    by-full : (f : Bool) → isFull l (length run) ≡ f → (whole cut : LinesPart × List ℕ) → Same other q whole cut
+        → Same other q (cond f (stopped l run at) whole) (cond f (stopped l run at) cut)
+    by-full true h whole cut e = ap standsAt (sym (take-full l run other q h))
+    by-full false h whole cut e = e
+
+one-part : (l : Lines) (run : List ℕ) (parts : List (List ℕ)) → takeParts l run parts ≡ lastOf (takeFrom l run 0 (joined parts))
+unfolding takeParts takeFrom joined
+one-part l run [] = refl
+one-part l run (part ∷ parts) =
+    one-part (takeFrom l run 0 part .0 .lines) (takeFrom l run 0 part .1) parts
+    ∙ ap (λ (r : Lines × List ℕ). takeLast (r .0) (r .1)) (sym (in-parts 0 0 l run part (joined parts)))
+
+few-numbers : (lines : List (List ℕ)) → length (numbersOf lines) ≤ length lines
+unfolding numbersOf
+few-numbers [] = omega arith
+few-numbers (line ∷ lines) =
+    either (λ (vs : List ℕ). length vs ≤ length (line ∷ lines)) (holdsNumber line) (omega (arith, few-numbers lines)) (omega (arith, few-numbers lines))
+
+-- however an input is cut into parts: a run of n places holds the numbers of the first n lines, in order, and how many of these held none
+pub first-lines : (parts : List (List ℕ)) (run : List ℕ) → Holds (take (length run) (linesOf (joined parts))) (takeParts noLines run parts)
+unfolding stepsOf oneLine
+first-lines parts run =
+    let lines : List (List ℕ) = take (length run) (linesOf (joined parts)) in
+    let all : length run - 0 ≡ length run = omega arith in
+    let a : Added 0 0 run lines (takeParts noLines run parts) = rw (one-part noLines run parts) (rw all at (adds 0 noLines run [] (joined parts) (tt, refl))) in
+    let few : length (numbersOf lines) ≤ length run = omega (arith, few-numbers lines, length-take (length run) (linesOf (joined parts))) in
+    record {
+      numbers = a .more ∙ omega arith;
+      values = rw (a .stored, sets-eq (numbersOf lines) run 0 (omega arith)) (take-at (numbersOf lines) _ (takeParts noLines run parts .0 .numbers) (omega (arith, a .more)));
+      none = a .bare ∙ omega arith;
+    }
