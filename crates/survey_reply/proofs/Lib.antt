@@ -1,0 +1,4 @@
+pub mod Laws
+pub mod Numerals
+pub mod Decides
+pub mod Theorems

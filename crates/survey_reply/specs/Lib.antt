@@ -1,0 +1,4 @@
+pub mod Replies
+pub mod Counts
+pub mod Sums
+pub mod Promises
