@@ -6,7 +6,7 @@
 void begin(char **stack);
 
 #if defined(__aarch64__)
-enum { READ = 63, WRITE = 64, OPEN_AT = 56, CONTROL = 29, EXIT = 93 };
+enum { READ = 63, WRITE = 64, OPEN_AT = 56, CLOSE = 57, ACCESS_AT = 48, CONTROL = 29, EXIT = 93 };
 
 #define LINUX_START __asm__(".globl _start\n_start:\n\tmov x29, #0\n\tmov x30, #0\n\tmov x0, sp\n\tbl begin\n")
 
@@ -19,7 +19,7 @@ static inline long call(long number, long a, long b, long c) {
     return x0;
 }
 #else
-enum { READ = 0, WRITE = 1, OPEN_AT = 257, CONTROL = 16, EXIT = 60 };
+enum { READ = 0, WRITE = 1, OPEN_AT = 257, CLOSE = 3, ACCESS_AT = 269, CONTROL = 16, EXIT = 60 };
 
 #define LINUX_START __asm__(".globl _start\n_start:\n\txor %ebp, %ebp\n\tmov %rsp, %rdi\n\tand $-16, %rsp\n\tcall begin\n")
 

@@ -10,20 +10,32 @@
 
 LINUX_START;
 
-/* A program is proved, and asks for read and write alone. It is null where it was not linked. */
+/* A program is proved, and asks for what is defined below alone. It is null where it was not linked. */
 typedef int program(void);
-__attribute__((weak)) program esr_listing, esr_records, esr_number, esr_entry, esr_walk;
+__attribute__((weak)) program esr_listing, esr_records, esr_number, esr_entry, esr_walk, esr_survey, esr_survey_sum;
 
 long read(int file, void *bytes, size_t length);
 long write(int file, const void *bytes, size_t length);
+long rattle_arg(size_t index, uint8_t *bytes, size_t length);
+void rattle_set_errno(int error);
 
 enum { IN = 0, OUT = 1, ERR = 2 };
 enum { ANSWERED = 0, REFUSED = 1, FAILED = 2 };
 
-/* Where the input comes from: an open file, or words that are left. */
+/* The option, which is the program's argument 1, or null. */
+static const char *option;
+/* Where the input comes from: an open file and the names of those that follow it, or words that are left. */
 static int source = IN;
+static char **files;
 static char **words;
 static size_t at;
+/* The last byte that came from the files. */
+static char last = '\n';
+/* Whether what came before an input broke off is answered; whether one did. */
+static int is_partial;
+static int is_broken;
+/* Whether such a line tells of something wrong: a survey counts what was refused. */
+static int is_watched = 1;
 /* The words by which a line tells of something wrong: a refusal, and in a walk entries that were lost or a sequence that stood twice. Whether a line began
    with one; the first bytes of the line now written. */
 static const char *const wrong[] = {"refused", "lost", "same"};
@@ -48,19 +60,33 @@ static int is(const char *text, const char *other) {
     return text[i] == other[i];
 }
 
-/* ---- what goes wrong: it is told on standard error, and ends the command, so that nothing is answered of an input that broke off */
+/* ---- what goes wrong: it is told on standard error, and ends the command, so that nothing is answered of an input that broke off; a survey still counts what it
+   has read, and the status says that it is not all */
 
 static void tell(const char *text) {
     call(WRITE, ERR, (long)text, (long)length_of(text));
 }
 
-static void fail(const char *before, const char *word, const char *after) {
+static void complain(const char *before, const char *word, const char *after) {
     tell("esr: ");
     tell(before);
     tell(word);
     tell(after);
     tell("\n");
+}
+
+static void fail(const char *before, const char *word, const char *after) {
+    complain(before, word, after);
     end(FAILED);
+}
+
+/* An input that broke off. */
+static void break_off(const char *before, const char *word, const char *after) {
+    if (!is_partial) {
+        fail(before, word, after);
+    }
+    complain(before, word, after);
+    is_broken = 1;
 }
 
 /* What Linux means by a negative number, where it has a name here. */
@@ -87,7 +113,89 @@ static const char *reason(long result) {
     return "";
 }
 
+/* ---- files */
+
+static const long HERE = -100;
+
+/* Whether a file is there and may be read, before anything is; whether it can be is seen when it is opened. */
+static void expect_file(const char *name) {
+    const long to_read = 4;
+    long result = call(ACCESS_AT, HERE, (long)name, to_read);
+    if (result < 0) {
+        fail(name, " cannot be read", reason(result));
+    }
+}
+
+/* Opens a file, or gives a negative number. A read of no bytes tells what a directory is. */
+static long opened(const char *name) {
+    char none[1];
+    long file = call(OPEN_AT, HERE, (long)name, 0);
+    if (file < 0) {
+        return file;
+    }
+    long result = call(READ, file, (long)none, 0);
+    if (result < 0) {
+        call(CLOSE, file, 0, 0);
+        return result;
+    }
+    return file;
+}
+
+/* Goes on to the next file that can be opened, if there is one. */
+static int has_next_file(void) {
+    while (files != NULL && *files != NULL) {
+        const char *name = *files++;
+        long file = opened(name);
+        if (file >= 0) {
+            call(CLOSE, source, 0, 0);
+            source = (int)file;
+            return 1;
+        }
+        break_off(name, " cannot be read", reason(file));
+    }
+    return 0;
+}
+
+/* Bytes of the files, one after the other; a last line that has no line feed is ended, so that the next file begins another. */
+static long of_files(char *bytes, size_t length) {
+    for (;;) {
+        long came = call(READ, source, (long)bytes, (long)length);
+        if (came > 0) {
+            last = bytes[came - 1];
+            return came;
+        }
+        if (came < 0) {
+            break_off("input could not be read", reason(came), "");
+        }
+        if (!has_next_file()) {
+            return 0;
+        }
+        if (last != '\n') {
+            last = bytes[0] = '\n';
+            return 1;
+        }
+    }
+}
+
 /* ---- what the programs ask for */
+
+long rattle_arg(size_t index, uint8_t *bytes, size_t length) {
+    const long missing = -1;
+    const long too_long = -2;
+    if (index != 1 || option == NULL) {
+        return missing;
+    }
+    size_t count = length_of(option);
+    for (size_t i = 0; i < count && i < length; i++) {
+        bytes[i] = (uint8_t)option[i];
+    }
+    return count <= length ? (long)count : too_long;
+}
+
+/* No program asks for it. */
+void rattle_set_errno(int error) {
+    (void)error;
+}
 
 /* Each word as a line. A line feed inside a word becomes a space: neither can stand in a number, so the answer is the word's. */
 static size_t of_words(char *bytes, size_t length) {
@@ -108,11 +216,7 @@ long read(int file, void *bytes, size_t length) {
     if (words != NULL) {
         return (long)of_words(bytes, length);
     }
-    long came = call(READ, source, (long)bytes, (long)length);
-    if (came < 0) {
-        fail("input could not be read", reason(came), "");
-    }
-    return came;
+    return of_files(bytes, length);
 }
 
 /* Sees whether a line begins with one of the words. */
@@ -135,7 +239,11 @@ long write(int file, const void *bytes, size_t length) {
     if (written < 0) {
         fail("output could not be written", reason(written), "");
     }
-    watch(bytes, (size_t)written);
+    if (file == ERR) {
+        is_wrong = 1;
+    } else if (is_watched) {
+        watch(bytes, (size_t)written);
+    }
     return written;
 }
 
@@ -168,21 +276,55 @@ static void run(program *asked, char **given) {
     asked();
 }
 
-static void run_on_file(program *asked, char **given) {
-    const long here = -100;
-    const char *command = *given++;
-    if (given[0] != NULL && given[1] != NULL) {
-        fail("one file at a time: esr ", command, " FILE");
+/* The words are files. */
+static void run_on_files(program *asked, char **given) {
+    char *none = NULL;
+    for (char **name = given; *name != NULL; name++) {
+        expect_file(*name);
     }
-    if (given[0] != NULL) {
-        long file = call(OPEN_AT, here, (long)given[0], 0);
+    if (*given != NULL) {
+        long file = opened(*given);
         if (file < 0) {
-            fail(given[0], " cannot be read", reason(file));
+            fail(*given, " cannot be read", reason(file));
         }
         source = (int)file;
-        given++;
+        files = given + 1;
     }
-    run(asked, given);
+    run(asked, &none);
+}
+
+static void run_on_file(program *asked, char **given, const char *usage) {
+    if (given[0] != NULL && given[1] != NULL) {
+        fail("one file at a time: ", usage, "");
+    }
+    run_on_files(asked, given);
+}
+
+/* The words after an option, if the first is one of these. */
+static char **after_option(char **given, const char *const *options) {
+    if (*given == NULL || (*given)[0] != '-') {
+        return given;
+    }
+    for (; *options != NULL; options++) {
+        if (is(*given, *options)) {
+            option = *options;
+            return given + 1;
+        }
+    }
+    fail("no option '", *given, "'; 'esr help' tells what there is");
+    return given;
+}
+
+static void survey(char **given) {
+    static const char *const options[] = {"--all", "--add", NULL};
+    char **names = after_option(given, options);
+    is_partial = 1;
+    is_watched = 0;
+    if (option != NULL && is(option, "--add")) {
+        run_on_files(esr_survey_sum, names);
+    } else {
+        run_on_file(esr_survey, names, "esr survey FILE");
+    }
 }
 
 static void obey(char **given) {
@@ -196,9 +338,11 @@ static void obey(char **given) {
     } else if (is(first, "number")) {
         run(esr_number, given + 1);
     } else if (is(first, "entry")) {
-        run_on_file(esr_entry, given);
+        run_on_file(esr_entry, given + 1, "esr entry FILE");
     } else if (is(first, "walk")) {
-        run_on_file(esr_walk, given);
+        run_on_file(esr_walk, given + 1, "esr walk FILE");
+    } else if (is(first, "survey")) {
+        survey(given + 1);
     } else if (first[0] != 0 && first[0] != '+' && (first[0] < '0' || '9' < first[0])) {
         fail("no command '", first, "', and a value begins with a digit; 'esr help' tells what there is");
     } else {
@@ -210,5 +354,5 @@ static void obey(char **given) {
 void begin(char **stack) {
     long count = (long)stack[0];
     obey(stack + (count == 0 ? 1 : 2));
-    end(is_wrong ? REFUSED : ANSWERED);
+    end(is_broken ? FAILED : is_wrong ? REFUSED : ANSWERED);
 }

@@ -22,8 +22,10 @@ JOBS = ROOM / "jobs"  # a folder for each crate that is being proved, in which r
 SHARED = ("rlib", "stamp", "obj", "bin")  # what rt leaves for the crates above
 LISTING = "esr_listing"
 # The command's words, each with the program that it asks for; without one of them it is the listing.
-COMMANDS = {"records": "esr_records", "number": "esr_number", "entry": "esr_entry", "walk": "esr_walk"}
-PROGRAMS = (LISTING, *COMMANDS.values())
+COMMANDS = {"records": "esr_records", "number": "esr_number", "entry": "esr_entry", "walk": "esr_walk", "survey": "esr_survey"}
+# A survey of surveys has a program of its own.
+SUM = ["survey", "--add"]
+PROGRAMS = (LISTING, *COMMANDS.values(), "esr_survey_sum")
 STDERR = 2
 TURN = 0.2  # seconds between two looks at a build
 MOST_JOBS = 4
@@ -31,6 +33,13 @@ MOST_JOBS = 4
 
 class Failure(Exception):
     """Why there is no program."""
+
+
+def asked(words):
+    """The program that the words of a command line ask for."""
+    if words[: len(SUM)] == SUM:
+        return PROGRAMS[-1]
+    return COMMANDS.get(words[0] if words else "", LISTING)
 
 
 def tell(message):

@@ -4,9 +4,10 @@ use Prim.Native.Nat.{ℕ, suc, _+_, _-_, _≤_, _<_}
 use mathlib.Core.Bool.{Bool, true, false, cond}
 use mathlib.Core.List.{List, [], _∷_}
 use mathlib.Core.Path.{_≡_, refl, sym, ap, _∙_}
+use native.Mathlib.Nat.{not-suc-le-zero}
 use native.Mathlib.Omega.{arith}
 use lib.Dec.{eqb, leb}
-use lib.ListN.{length, set, drop, drop-of-length-le, length-set}
+use lib.ListN.{length, set, drop, drop-of-length-le, length-drop, length-set}
 use lib.Seq.{drop-drop}
 use borrow.Author.Tests.{le-leb, lt-leb, leb-true, leb-false}
 use Rattle.line_reader.proofs.Laws.{part-goes-on}
@@ -137,3 +138,24 @@ unfolding endLine
 same-places l run =
     either (λ (r : Lines × List ℕ). length (r .1) ≡ length run) (isFull l (length run)) refl
     (either (λ (r : Lines × List ℕ). length (r .1) ≡ length run) (passed (finishOf (l .line) .refusal)) (simp length-set) refl)
+
+-- A part never ends before its offset, and where the run is not full it takes a byte: so a loop that takes part after part ends.
+
+goes-on : (l : Lines) (run : List ℕ) (at : ℕ) (w : List ℕ) → at ≤ takeFrom l run at w .0 .next
+unfolding takeFrom
+goes-on l run at [] = omega arith
+goes-on l run at (b ∷ w) =
+    either (λ (r : Taken). at ≤ r .0 .next) (isFull l (length run)) (omega arith)
+    (either (λ (r : Taken). at ≤ r .0 .next) (eqb b lineFeed) (omega (arith, goes-on (endLine l run .0) (endLine l run .1) (at + 1) w))
+    (omega (arith, goes-on (onLine l (stepOf (l .line) b)) run (at + 1) w)))
+
+moves : (l : Lines) (run : List ℕ) (at : ℕ) (w : List ℕ) → isFull l (length run) ≡ false → 0 < length w → at < takeFrom l run at w .0 .next
+unfolding takeFrom
+moves l run at [] h some = absurd (not-suc-le-zero some)
+moves l run at (b ∷ w) h some =
+    rw h
+    (either (λ (r : Taken). at < r .0 .next) (eqb b lineFeed) (omega (arith, goes-on (endLine l run .0) (endLine l run .1) (at + 1) w))
+    (omega (arith, goes-on (onLine l (stepOf (l .line) b)) run (at + 1) w)))
+
+pub lines-moved : (l : Lines) (run s : List ℕ) (at : ℕ) {out : Taken} → out ≡ takeFrom l run at (drop at s) → isFull l (length run) ≡ false → at < length s → at < out .0 .next
+lines-moved l run s at e h some = rw e (moves l run at (drop at s) h (omega (arith, length-drop at s)))

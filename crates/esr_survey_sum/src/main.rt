@@ -1,0 +1,116 @@
+// What surveys said, added up: lines of their outputs on standard input, and one survey of all (#101). What a line says, and the sums, are promised by `survey_reply`;
+// here lines are read and the survey is written, through fixed buffers. A line that cannot be added is told, with its number, and the others are added all the same.
+ghost use Prim.Native.Nat.{_≤_};
+ghost use lib.ListN.{length};
+use libc::STDERR_FILENO;
+use libc::STDIN_FILENO;
+use survey_reply::PLACES;
+
+// Longer than any line of a survey.
+const LINE: usize = 64;
+
+// Where the reading stands between two parts of the input: how many bytes of the line came, and how many lines have ended.
+struct Reading {
+    held: usize,
+    lines: u64,
+}
+
+fn least(a: usize, b: usize) -> usize
+    ensures { λ r. ⌜ r ≤ b ⌝ }
+{
+    if a < b {
+        return a;
+    }
+    b
+}
+
+fn tell(line: u64, what: &[u8]) {
+    let mut text = io::buffer();
+    let mut at = buffer::put_bytes(&mut text, 0, b"esr: line ");
+    at = digits::put_number(&mut text, at, digits::Base::Decimal, line);
+    at = buffer::put_bytes(&mut text, at, what);
+    io::write_all(STDERR_FILENO, &text[0..least(at, 4096)]);
+}
+
+// Adds the count of a line, of which this much is held.
+fn add_line(line: &[u8], held: usize, number: u64, totals: &mut [u64]) {
+    if line.len() < held {
+        tell(number, b" is none of a survey's\n");
+        return;
+    }
+    let count = survey_reply::read_count(&line[0..held]);
+    if !count.said {
+        tell(number, b" is none of a survey's\n");
+        return;
+    }
+    if !survey_reply::add_count(totals, count.place, count.count) {
+        tell(number, b" takes a count past 64 bits, and is left out\n");
+    }
+}
+
+// The offset of the first line feed, or of the end.
+fn line_end(part: &[u8], from: usize) -> usize
+    requires { ⌜ from ≤ length (now part) ⌝ }
+    ensures { λ r. ⌜ (from ≤ r) × (r ≤ length (now (part .entry))) ⌝ }
+{
+    let mut at = from;
+    while at < part.len() {
+        if part[at] == b'\n' {
+            return at;
+        }
+        at += 1;
+    }
+    at
+}
+
+// Adds the lines that end in a part of the input, and holds the line that does not.
+fn add_part(from: Reading, part: &[u8], line: &mut [u8], totals: &mut [u64]) -> Reading {
+    let mut held = from.held;
+    let mut lines = from.lines;
+    let mut next: usize = 0;
+    while next < part.len() {
+        let end = line_end(part, next);
+        held = buffer::put_bytes(line, held, &part[next..end]);
+        if part.len() <= end {
+            return Reading { held, lines };
+        }
+        lines = std::num::wrapping_add_u64(lines, 1);
+        add_line(line, held, lines, totals);
+        held = 0;
+        next = end + 1;
+    }
+    Reading { held, lines }
+}
+
+// A last line without a line feed is one if it has a character.
+fn add_last(reading: Reading, line: &[u8], totals: &mut [u64]) {
+    if 0 < reading.held {
+        add_line(line, reading.held, std::num::wrapping_add_u64(reading.lines, 1), totals);
+    }
+}
+
+// A proved loop has to end, and nothing says that an input does: it counts down from a number of reads that no run uses up.
+fn add_surveys(part: &mut [u8], line: &mut [u8], totals: &mut [u64]) {
+    let mut reading = Reading { held: 0, lines: 0 };
+    let mut turns = u64::MAX;
+    while 0 < turns {
+        let got = libc::read(STDIN_FILENO, part);
+        let n = streams::count_read(got, part);
+        if n == 0 {
+            add_last(reading, line, totals);
+            return;
+        }
+        reading = add_part(reading, &part[0..n], line, totals);
+        turns -= 1;
+    }
+}
+
+fn main() {
+    let mut part = io::large_buffer();
+    let mut line = [0u8; LINE];
+    let mut totals = [0u64; PLACES];
+    add_surveys(&mut part, &mut line, &mut totals);
+    let mut text = io::buffer();
+    let end = survey_reply::put_survey(&mut text, 0, &totals, true);
+    streams::flush(&text, end);
+}
