@@ -85,7 +85,12 @@ fn add_part(from: Reading, part: &[u8], line: &mut [u8], totals: &mut [u64]) -> 
 // A last line without a line feed is one if it has a character.
 fn add_last(reading: Reading, line: &[u8], totals: &mut [u64]) {
     if 0 < reading.held {
-        add_line(line, reading.held, std::num::wrapping_add_u64(reading.lines, 1), totals);
+        add_line(
+            line,
+            reading.held,
+            std::num::wrapping_add_u64(reading.lines, 1),
+            totals,
+        );
     }
 }
 

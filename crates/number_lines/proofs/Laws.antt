@@ -141,7 +141,7 @@ same-places l run =
 
 -- A part never ends before its offset, and where the run is not full it takes a byte: so a loop that takes part after part ends.
 
-goes-on : (l : Lines) (run : List ℕ) (at : ℕ) (w : List ℕ) → at ≤ takeFrom l run at w .0 .next
+pub goes-on : (l : Lines) (run : List ℕ) (at : ℕ) (w : List ℕ) → at ≤ takeFrom l run at w .0 .next
 unfolding takeFrom
 goes-on l run at [] = omega arith
 goes-on l run at (b ∷ w) =

@@ -1,14 +1,14 @@
--- What the promises come to: however an input is cut into parts, the run holds the numbers of its first lines. By induction over the bytes: the state of a line
--- is that of the bytes taken of it so far.
+-- What the promises come to: however an input is cut into parts, the run holds the numbers of its first lines, and the rest of the input holds the other lines. By
+-- induction over the bytes: the state of a line is that of the bytes taken of it so far.
 use Prim.Native.Nat.{ℕ, suc, _+_, _-_, _≤_}
-use mathlib.Core.Bool.{Bool, true, false, cond, not}
+use mathlib.Core.Bool.{Bool, true, false, false≢true, cond, not}
 use mathlib.Core.List.{List, [], _∷_, _++_, append-assoc, append-nil}
 use mathlib.Core.Path.{_≡_, refl, sym, ap, _∙_}
 use native.Mathlib.Numerals.{add-one}
 use native.Mathlib.Omega.{arith}
 use lib.Dec.{T, eqb, ltb}
-use lib.ListN.{length, set, take, length-take}
-use lib.Seq.{sets, sets-eq, take-nil, take-at}
+use lib.ListN.{length, set, take, drop, length-take}
+use lib.Seq.{drop-append-add, drop-nil, sets, sets-eq, take-nil, take-at}
 use borrow.Author.Tests.{eqb-true, leb-true, lt-ltb}
 use Rattle.line_reader.specs.Lines.{lineFeed, oneLine}
 use Rattle.number.proofs.Laws.{either}
@@ -18,7 +18,7 @@ use Rattle.number.specs.Numbers.{numberOf}
 use Rattle.number.specs.Steps.{start, stepOf, stepsOf, finishOf, hasCharacter}
 use Rattle.number.specs.declared.Number.{Number}
 use Rattle.number.specs.declared.NumberState.{NumberState}
-use Rattle.number_lines.proofs.Laws.{end-full, end-none, end-number, last-none, last-open, same-places, some-place, stopped, take-full}
+use Rattle.number_lines.proofs.Laws.{end-full, end-none, end-number, last-none, last-open, goes-on, same-places, some-place, stopped, take-full}
 use Rattle.number_lines.proofs.Splitting.{line-alone, line-and-rest, longer-line}
 use Rattle.number_lines.specs.Lines.{holdsNumber, joined, linesOf, noneOf, numbersOf}
 use Rattle.number_lines.specs.Runs.{endLine, Holds, isFull, noLines, onLine, takeFrom, takeLast, takeParts}
@@ -220,3 +220,104 @@ first-lines parts run =
       values = rw (a .stored, sets-eq (numbersOf lines) run 0 (omega arith)) (take-at (numbersOf lines) _ (takeParts noLines run parts .0 .numbers) (omega (arith, a .more)));
       none = a .bare ∙ omega arith;
     }
+
+-- What is left of an input.
+
+-- a run that is full is not within a line
+abbrev Between : Lines → List ℕ → List ℕ → Type 0
+Between l run line = isFull l (length run) ≡ true → line ≡ []
+
+abbrev Filled : LinesPart × List ℕ → Type 0
+Filled r = isFull (r .0 .lines) (length (r .1)) ≡ true
+
+-- from any byte on, the bytes that were not taken hold the lines that were not
+abbrev Leaves : ℕ → List ℕ → List (List ℕ) → LinesPart × List ℕ → Type 0
+Leaves at w lines r = Filled r → linesOf (drop (r .0 .next - at) w) ≡ lines
+
+leaves : (at : ℕ) (l : Lines) (run line w : List ℕ) → T (oneLine line) → Between l run line
+    → Leaves at w (drop (left (l .numbers) (l .none) run) (linesOf (line ++ w))) (takeFrom l run at w)
+unfolding takeFrom linesOf oneLine
+leaves at l run line [] t z f = rw (z f, drop-nil {A = ℕ} (at - at), drop-nil {A = List ℕ} (left (l .numbers) (l .none) run))
+leaves at l run line (b ∷ w) t z f =
+    by-full (isFull l (length run)) refl (leaves (at + 1) (endLine l run .0) (endLine l run .1) [] w tt (λ g. refl)) (λ n. leaves (at + 1) (onLine l (stepOf (l .line) b)) run (line ++ (b ∷ [])) w n) f
+  where
+    fed : LinesPart × List ℕ
+    fed = takeFrom (endLine l run .0) (endLine l run .1) (at + 1) w
+
+    stepped : LinesPart × List ℕ
+    stepped = takeFrom (onLine l (stepOf (l .line) b)) run (at + 1) w
+
+    All : LinesPart × List ℕ → Type 0
+    All r = Leaves at (b ∷ w) (drop (left (l .numbers) (l .none) run) (linesOf (line ++ (b ∷ w)))) r
+
+    -- one byte further
+    further : (r : LinesPart × List ℕ) → at + 1 ≤ r .0 .next → drop (r .0 .next - at) (b ∷ w) ≡ drop (r .0 .next - (at + 1)) w
+    further r g = let e : r .0 .next - at ≡ suc (r .0 .next - (at + 1)) = omega arith in rw e
+
+    by-feed : isFull l (length run) ≡ false
+        → Leaves (at + 1) w (drop (left (endLine l run .0 .numbers) (endLine l run .0 .none) (endLine l run .1)) (linesOf w)) fed
+        → (T (oneLine (line ++ (b ∷ []))) → Leaves (at + 1) w (drop (left (l .numbers) (l .none) run) (linesOf ((line ++ (b ∷ [])) ++ w))) stepped)
+        → (f : Bool) → eqb b lineFeed ≡ f → All (cond f fed stepped)
+    by-feed h feed byte true e g =
+        rw (further fed (goes-on (endLine l run .0) (endLine l run .1) (at + 1) w), eqb-true b lineFeed e, line-and-rest line w t, one-less l run h) (feed g)
+    by-feed h feed byte false e g =
+        rw (further stepped (goes-on (onLine l (stepOf (l .line) b)) run (at + 1) w), ← append-assoc line (b ∷ []) w) (byte (longer-line line b t (is-true (ap not e))) g)
+
+    by-full : (f : Bool) → isFull l (length run) ≡ f
+        → Leaves (at + 1) w (drop (left (endLine l run .0 .numbers) (endLine l run .0 .none) (endLine l run .1)) (linesOf w)) fed
+        → (T (oneLine (line ++ (b ∷ []))) → Between l run (line ++ (b ∷ [])) → Leaves (at + 1) w (drop (left (l .numbers) (l .none) run) (linesOf ((line ++ (b ∷ [])) ++ w))) stepped)
+        → All (cond f (stopped l run at) (cond (eqb b lineFeed) fed stepped))
+    by-full true h feed byte g =
+        let here : at - at ≡ 0 = omega arith in
+        let none-left : left (l .numbers) (l .none) run ≡ 0 = omega (arith, leb-true (length run) (l .numbers + l .none) h) in
+        rw (here, none-left, z h)
+    by-full false h feed byte g = by-feed h feed (λ n. byte n (λ e. absurd (false≢true (sym h ∙ e)))) (eqb b lineFeed) refl g
+
+-- where the run is not full, what follows is taken as if it had come at once
+abbrev Cut : ℕ → List ℕ → LinesPart × List ℕ → LinesPart × List ℕ → Type 0
+Cut at w whole cut = isFull (cut .0 .lines) (length (cut .1)) ≡ false → whole ≡ takeFrom (cut .0 .lines) (cut .1) at w
+
+at-once : (at : ℕ) (l : Lines) (run p q : List ℕ) → Cut (at + length p) q (takeFrom l run at (p ++ q)) (takeFrom l run at p)
+unfolding takeFrom
+at-once at l run [] q n = ap (λ (k : ℕ). takeFrom l run k q) (omega arith)
+at-once at l run (b ∷ p) q n =
+    let far : at + 1 + length p ≡ at + suc (length p) = omega arith in
+    by-full (isFull l (length run)) refl _ _
+    (both (Cut (at + suc (length p)) q) (eqb b lineFeed) (rw far at (at-once (at + 1) (endLine l run .0) (endLine l run .1) p q))
+    (rw far at (at-once (at + 1) (onLine l (stepOf (l .line) b)) run p q))) n
+  where
+    by-full : (f : Bool) → isFull l (length run) ≡ f → (whole cut : LinesPart × List ℕ) → Cut (at + suc (length p)) q whole cut
+        → Cut (at + suc (length p)) q (cond f (stopped l run at) whole) (cond f (stopped l run at) cut)
+    by-full true h whole cut e m = absurd (false≢true (sym m ∙ h))
+    by-full false h whole cut e m = e m
+
+-- an offset moves the next one by as much
+moved-by : (k at : ℕ) (l : Lines) (run w : List ℕ) → takeFrom l run (k + at) w .0 .next ≡ k + takeFrom l run at w .0 .next
+unfolding takeFrom
+moved-by k at l run [] = refl
+moved-by k at l run (b ∷ w) =
+    let R : LinesPart × List ℕ → LinesPart × List ℕ → Type 0 = λ p q. p .0 .next ≡ k + q .0 .next in
+    let far : k + (at + 1) ≡ k + at + 1 = omega arith in
+    both R (isFull l (length run)) refl
+    (both R (eqb b lineFeed) (rw far at (moved-by k (at + 1) (endLine l run .0) (endLine l run .1) w))
+    (rw far at (moved-by k (at + 1) (onLine l (stepOf (l .line) b)) run w)))
+
+-- where a part fills the run, the rest of the part begins with the line after those that were taken: so that run after run takes each line once
+pub next-lines : (before part run : List ℕ)
+    → (let r = takeFrom noLines run 0 before in
+    let s = takeFrom (r .0 .lines) (r .1) 0 part in
+    isFull (r .0 .lines) (length (r .1)) ≡ false → isFull (s .0 .lines) (length (s .1)) ≡ true
+    → linesOf (drop (s .0 .next) part) ≡ drop (length run) (linesOf (before ++ part)))
+unfolding oneLine
+next-lines before part run some full =
+    let r : LinesPart × List ℕ = takeFrom noLines run 0 before in
+    let s : LinesPart × List ℕ = takeFrom (r .0 .lines) (r .1) 0 part in
+    let whole : LinesPart × List ℕ = takeFrom noLines run 0 (before ++ part) in
+    let is : whole ≡ takeFrom (r .0 .lines) (r .1) (length before + 0) part =
+    at-once 0 noLines run before part some ∙ ap (λ (k : ℕ). takeFrom (r .0 .lines) (r .1) k part) (omega arith) in
+    let next : whole .0 .next - 0 ≡ length before + s .0 .next =
+    omega (arith, ap (λ (x : LinesPart × List ℕ). x .0 .next) is, moved-by (length before) 0 (r .0 .lines) (r .1) part) in
+    let filled : isFull (whole .0 .lines) (length (whole .1)) ≡ true =
+    ap (λ (x : Lines × List ℕ). isFull (x .0) (length (x .1))) (ap standsAt is ∙ any-offset (length before + 0) 0 (r .0 .lines) (r .1) part) ∙ full in
+    let all : length run - 0 ≡ length run = omega arith in
+    sym (ap linesOf (drop-append-add before part (s .0 .next))) ∙ rw (next, all) at (leaves 0 noLines run [] (before ++ part) tt (λ g. refl) filled)
