@@ -7,10 +7,10 @@ use Rattle.esr_survey_sum.proofs.add_part.Statement.{statement}
 use Rattle.esr_survey_sum.proofs.add_part.Tie as tie
 
 abbrev Inv-loop : tie.InvT-loop
-Inv-loop part line₀ totals₀ held₀ lines₀ next₀ line totals held lines next = (length line ≡ length line₀) × (length totals ≡ length totals₀)
+Inv-loop part line₀ totals₀ held₀ lines₀ left₀ next₀ line totals held lines left next = (length line ≡ length line₀) × (length totals ≡ length totals₀)
 
 abbrev μ-loop : tie.MeasureT-loop
-μ-loop part line₀ totals₀ held₀ lines₀ next₀ line totals held lines next = length part - next
+μ-loop part line₀ totals₀ held₀ lines₀ left₀ next₀ line totals held lines left next = length part - next
 
 pub add-part-spec : {M : Type 1} → statement M
 add-part-spec =

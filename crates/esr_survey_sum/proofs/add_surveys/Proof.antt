@@ -6,10 +6,10 @@ use Rattle.esr_survey_sum.proofs.add_surveys.Statement.{statement}
 use Rattle.esr_survey_sum.proofs.add_surveys.Tie as tie
 
 abbrev Inv-loop : tie.InvT-loop
-Inv-loop part₀ line₀ totals₀ reading₀ turns₀ part line totals reading turns = (length part ≡ length part₀) × (length line ≡ length line₀) × (length totals ≡ length totals₀)
+Inv-loop part₀ line₀ totals₀ standing₀ turns₀ part line totals standing turns = (length part ≡ length part₀) × (length line ≡ length line₀) × (length totals ≡ length totals₀)
 
 abbrev μ-loop : tie.MeasureT-loop
-μ-loop part₀ line₀ totals₀ reading₀ turns₀ part line totals reading turns = turns
+μ-loop part₀ line₀ totals₀ standing₀ turns₀ part line totals standing turns = turns
 
 pub add-surveys-spec : {M : Type 1} → statement M
 add-surveys-spec =
