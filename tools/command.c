@@ -192,7 +192,7 @@ long rattle_arg(size_t index, uint8_t *bytes, size_t length) {
     return count <= length ? (long)count : too_long;
 }
 
-/* No program asks for it. */
+/* No program looks at what is set. */
 void rattle_set_errno(int error) {
     (void)error;
 }
