@@ -15,7 +15,7 @@ use refusals::Refusal;
 const LIMIT: usize = 65536;
 
 // The bytes of an entry, its length's two included.
-const ENTRY_SIZE: usize = 13;
+pub const ENTRY_SIZE: usize = 13;
 
 // What erased flash holds.
 const ERASED: u8 = 0xFF;

@@ -9,13 +9,11 @@ ghost use lib.ListN.{getD, length, replicate};
 ghost use mathlib.Core.Path.{_≡_};
 use entry::read_entry;
 use reply_lines::put_refusal;
+use walk::ENTRY_SIZE;
 use walk_lines::put_count_line;
 use walk_lines::put_end_line;
 use walk_lines::put_entry_line;
 use walk_lines::put_step_line;
-
-// The bytes of an entry.
-const ENTRY_SIZE: usize = 13;
 
 // The steps of any block: 5,041 entries fit it.
 const STEPS: usize = 5040;
