@@ -2,6 +2,7 @@
 01 and 02 (tools/expected).
 
 #105: a refusal by 1 names its field. `esr records` says `refused 1 carried=0xH start=S width=W MESSAGE`, and the message ends with `, bits S..E`.
+#107: a number ends at the first stop, and `esr number` refuses what else stands behind it by 23. The Rust is given the bytes before the stop.
 #109: a record has a mark, the last column of its line in `esr records`."""
 import sys
 from importlib.machinery import SourceFileLoader
@@ -49,3 +50,17 @@ def in_rusts_form(lines):
         elif line.startswith(RECORD):
             line = without_mark(line, next(marks, b""))
         yield line
+
+
+def before_stop(string):
+    """The bytes that the Rust is given: those before the first stop."""
+    return string[: min((at for at in map(string.find, map(bytes, zip(expected.STOPS))) if at >= 0), default=len(string))]
+
+
+def without_rest(string, line):
+    """The line of `esr number` for a string in the Rust's form: where a rest is refused, what the second reading has of the number before it. One that refuses another
+    rest, or does not refuse this one, says so, and is then no line of the Rust's."""
+    refusal, _ = expected.whole_number(string)
+    if (line == b"refused 23\n") != (refusal == 23):
+        return line[:-1] + b" (a second reading has the refusal %d)\n" % refusal
+    return b"ok 0x%x\n" % expected.front_number(string)[1] if refusal == 23 else line

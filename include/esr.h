@@ -41,7 +41,8 @@ enum {
     /* 17 is unused and is not given again: it stood for SAS or TI above 3, and both are two bits wide. */
     ESR_BAD_TABLE = 18,        /* a table of counts that has not exactly 64 places */
     ESR_LONG_RUN = 19,         /* a run of 2^32 values or more */
-    ESR_LONG_BLOCK = 20        /* a block of more than 65,536 bytes */
+    ESR_LONG_BLOCK = 20,       /* a block of more than 65,536 bytes */
+    ESR_BAD_REST = 23          /* something else than a space, tab, carriage return or line feed stands behind a number */
 };
 
 /* As many records as any value has: 14 inside ISS, 19 in all. */
@@ -88,6 +89,15 @@ typedef struct esr_number {
     uint8_t start;
     uint8_t width;
 } esr_number;
+
+typedef struct esr_number_read {
+    uint64_t value;
+    uint64_t carried;
+    size_t taken;
+    uint8_t refusal;
+    uint8_t start;
+    uint8_t width;
+} esr_number_read;
 
 /* The body is block[body] to block[body + body_length - 1], those same bytes of the caller's block. */
 typedef struct esr_entry {
@@ -160,8 +170,14 @@ esr_filled esr_message(uint64_t number, uint64_t carried, uint64_t start, uint64
 
 /* Reads a number: an exact "0x" selects base 16 (letters of either case), else 10. Then one "+" may stand if a character follows. Characters
    go left to right: not a digit is 9; a digit that takes the result past 2^64-1 is 10; the first offender answers. No characters after any
-   "0x" is 8. The value of a refused number is 0. */
+   "0x" is 8. The value of a refused number is 0. The number ends at the first stop: a space, tab, carriage return or line feed. Behind it only stops
+   may stand: anything else is 23, after 8 to 10. So "12\r\n" is 12, and "12 3" is refused. */
 esr_number esr_parse_number(const uint8_t *characters, size_t length);
+
+/* Reads the number at the front of a line, as above, as far as the first stop or the end: value is the number and taken the bytes that stand before the
+   stop, so that characters[taken] is the stop, or taken is length. What stands behind it is not looked at. Input that begins with a stop is 8, as is "0x" followed by
+   one. A refused number has the value 0 and takes 0 bytes. */
+esr_number_read esr_read_number(const uint8_t *characters, size_t length);
 
 /* Reads the flash entry at the front of a block, big-endian: two bytes of length (bytes that follow), version 1, two of sequence, eight of
    ESR; so length 11, 13 bytes in all. Order: fewer than 2 bytes, 14; length 0, 15; fewer than 2 + length, 14; version, 16; length not 11,
@@ -198,6 +214,8 @@ ESR_HOLDS(filled, sizeof(esr_filled) == 24 && offsetof(esr_filled, count) == 8 &
 ESR_HOLDS(filled_bits, offsetof(esr_filled, start) == 17 && offsetof(esr_filled, width) == 18);
 ESR_HOLDS(number, sizeof(esr_number) == 24 && offsetof(esr_number, carried) == 8 && offsetof(esr_number, refusal) == 16);
 ESR_HOLDS(number_bits, offsetof(esr_number, start) == 17 && offsetof(esr_number, width) == 18);
+ESR_HOLDS(number_read, sizeof(esr_number_read) == 32 && offsetof(esr_number_read, carried) == 8 && offsetof(esr_number_read, taken) == 16);
+ESR_HOLDS(number_read_bits, offsetof(esr_number_read, refusal) == 24 && offsetof(esr_number_read, start) == 25 && offsetof(esr_number_read, width) == 26);
 ESR_HOLDS(entry, sizeof(esr_entry) == 40 && offsetof(esr_entry, carried) == 8 && offsetof(esr_entry, body) == 16);
 ESR_HOLDS(entry_rest, offsetof(esr_entry, body_length) == 24 && offsetof(esr_entry, sequence) == 32 && offsetof(esr_entry, refusal) == 34);
 ESR_HOLDS(entry_bits, offsetof(esr_entry, start) == 35 && offsetof(esr_entry, width) == 36);

@@ -320,6 +320,11 @@ static int reads(const char *words, uint8_t refusal, uint64_t value) {
     return number.refusal == refusal && number.carried == 0 && number.start == 0 && number.width == 0 && number.value == value;
 }
 
+static int takes(const char *words, uint8_t refusal, uint64_t value, size_t taken) {
+    esr_number_read number = esr_read_number((const uint8_t *)words, length_of(words));
+    return number.refusal == refusal && number.carried == 0 && number.start == 0 && number.width == 0 && number.value == value && number.taken == taken;
+}
+
 static void check_numbers(void) {
     HOLDS(reads("0x+f", ESR_ACCEPTED, 15));
     HOLDS(reads("18446744073709551615", ESR_ACCEPTED, 0xFFFFFFFFFFFFFFFF));
@@ -329,6 +334,19 @@ static void check_numbers(void) {
     HOLDS(reads("0X1f", ESR_INVALID_DIGIT, 0));
     HOLDS(reads("+", ESR_INVALID_DIGIT, 0));
     HOLDS(reads("18446744073709551616x", ESR_POS_OVERFLOW, 0));
+    HOLDS(reads("12 \t\r\n", ESR_ACCEPTED, 12));
+    HOLDS(reads(" 12", ESR_EMPTY, 0));
+    HOLDS(reads("0x 12", ESR_EMPTY, 0));
+    HOLDS(reads("12x 3", ESR_INVALID_DIGIT, 0));
+    HOLDS(reads("12 3", ESR_BAD_REST, 0));
+    HOLDS(takes("0x+f rest", ESR_ACCEPTED, 15, 4));
+    HOLDS(takes("12\n", ESR_ACCEPTED, 12, 2));
+    HOLDS(takes("12", ESR_ACCEPTED, 12, 2));
+    HOLDS(takes("\t12", ESR_EMPTY, 0, 0));
+    HOLDS(takes("0x\r", ESR_EMPTY, 0, 0));
+    HOLDS(takes("+ 1", ESR_INVALID_DIGIT, 0, 0));
+    HOLDS(takes("12\v", ESR_INVALID_DIGIT, 0, 0));
+    HOLDS(takes("18446744073709551616 ", ESR_POS_OVERFLOW, 0, 0));
 }
 
 static uint8_t block[] = {0x00, 0x0B, 0x01, 0x12, 0x34, 0x01, 0x23, 0x45, 0x67, 0x89, 0xAB, 0xCD, 0xEF, 0x55};
@@ -493,6 +511,12 @@ static void call_parse_number(void) {
     sink = &number;
 }
 
+static void call_read_number(void) {
+    static esr_number_read number;
+    number = esr_read_number((const uint8_t *)"0x0123456789abcdef", (size_t)asked % 19);
+    sink = &number;
+}
+
 static void call_survey(void) {
     static esr_surveyed surveyed;
     surveyed = esr_survey(run, (size_t)asked, counts, CLASSES);
@@ -586,6 +610,7 @@ int main(void) {
     measure_writer("esr_value_binary_string", esr_value_binary_string, counted, 66);
     measure_writer("esr_message", write_message, counted, 9);
     measure("esr_parse_number", call_parse_number, counted, 19);
+    measure("esr_read_number", call_read_number, counted, 19);
     measure("esr_read_entry", call_read_entry, counted, sizeof block + 1);
     measure("esr_walk", call_walk, counted, sizeof walked_block + 1);
     measure("esr_survey", call_survey, counted, CLASSES);

@@ -197,7 +197,7 @@ void rattle_set_errno(int error) {
     (void)error;
 }
 
-/* Each word as a line. A line feed inside a word becomes a space: neither can stand in a number, so the answer is the word's. */
+/* Each word as a line. A line feed inside a word becomes a space: each ends a number, so the answer is the word's. */
 static size_t of_words(char *bytes, size_t length) {
     size_t count = 0;
     while (count < length && *words != NULL) {
@@ -315,6 +315,15 @@ static char **after_option(char **given, const char *const *options) {
     return given;
 }
 
+/* The values are lines of standard input, whose remarks are passed over where that is asked for, or words, each of which is one whole number. */
+static void run_on_values(program *asked, char **given) {
+    if (*given != NULL && is(*given, "--remarks")) {
+        given++;
+        option = *given == NULL ? "--remarks" : NULL;
+    }
+    run(asked, given);
+}
+
 static void survey(char **given) {
     static const char *const options[] = {"--all", "--add", NULL};
     char **names = after_option(given, options);
@@ -334,19 +343,19 @@ static void obey(char **given) {
     } else if (is(first, "version") || is(first, "--version")) {
         say(VERSION);
     } else if (is(first, "records")) {
-        run(esr_records, given + 1);
+        run_on_values(esr_records, given + 1);
     } else if (is(first, "number")) {
-        run(esr_number, given + 1);
+        run_on_values(esr_number, given + 1);
     } else if (is(first, "entry")) {
         run_on_file(esr_entry, given + 1, "esr entry FILE");
     } else if (is(first, "walk")) {
         run_on_file(esr_walk, given + 1, "esr walk FILE");
     } else if (is(first, "survey")) {
         survey(given + 1);
-    } else if (first[0] != 0 && first[0] != '+' && (first[0] < '0' || '9' < first[0])) {
+    } else if (first[0] != 0 && first[0] != '+' && (first[0] < '0' || '9' < first[0]) && !is(first, "--remarks")) {
         fail("no command '", first, "', and a value begins with a digit; 'esr help' tells what there is");
     } else {
-        run(esr_listing, given);
+        run_on_values(esr_listing, given);
     }
 }
 

@@ -1,5 +1,5 @@
 -- Each promise of this crate decides its answer: it says what the answer is, and what the lent array holds then.
-use Rattle.capi.specs.Promises.{BinaryFilled, RecordsFilled, EntryAnswered, LineFilled, ListingFilled, MessageFilled, NumberAnswered, SurveyAnswered, TextFilled, ValueFilled, WalkAnswered}
+use Rattle.capi.specs.Promises.{BinaryFilled, RecordsFilled, EntryAnswered, LineFilled, ListingFilled, MessageFilled, NumberAnswered, ReadAnswered, SurveyAnswered, TextFilled, ValueFilled, WalkAnswered}
 use Rattle.promise.proofs.Laws.{same}
 use Rattle.promise.specs.Promise.{Decides}
 
@@ -26,6 +26,9 @@ esr-listing-decides (esr, before) a b = same
 
 pub esr-parse-number-decides : Decides NumberAnswered
 esr-parse-number-decides s a b = same
+
+pub esr-read-number-decides : Decides ReadAnswered
+esr-read-number-decides s a b = same
 
 pub esr-read-entry-decides : Decides EntryAnswered
 esr-read-entry-decides s a b = same

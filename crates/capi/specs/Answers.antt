@@ -3,13 +3,14 @@ use Prim.Native.Nat.{ℕ}
 use mathlib.Core.List.{List}
 use lib.ListN.{length}
 use Rattle.entry.specs.Entries.{entryOf, bodyOf, bodyStart}
-use Rattle.number.specs.Numbers.{numberOf}
+use Rattle.number.specs.Rest.{readOf, wholeOf}
 use Rattle.refusals.specs.Refusals.{refusalNumber}
 use Rattle.refusals.specs.declared.Refusal.{Refusal}
 use Rattle.survey.specs.declared.Tally.{Tally}
 use Rattle.capi.specs.declared.EntryAnswer.{EntryAnswer}
 use Rattle.capi.specs.declared.Filled.{Filled}
 use Rattle.capi.specs.declared.NumberAnswer.{NumberAnswer}
+use Rattle.capi.specs.declared.ReadAnswer.{ReadAnswer}
 use Rattle.capi.specs.declared.SurveyAnswer.{SurveyAnswer}
 use Rattle.capi.specs.declared.WalkAnswer.{WalkAnswer}
 use Rattle.walk.specs.declared.Walked.{Walked}
@@ -21,11 +22,22 @@ filledOf f count = record { carried = f .carries; count = count; refusal = refus
 unfoldable pub numberAnswer : List ℕ → NumberAnswer
 numberAnswer s =
     record {
-      value = numberOf s .value;
-      carried = numberOf s .refusal .carries;
-      refusal = refusalNumber (numberOf s .refusal);
-      start = numberOf s .refusal .start;
-      width = numberOf s .refusal .width;
+      value = wholeOf s .value;
+      carried = wholeOf s .refusal .carries;
+      refusal = refusalNumber (wholeOf s .refusal);
+      start = wholeOf s .refusal .start;
+      width = wholeOf s .refusal .width;
+    }
+
+unfoldable pub readAnswer : List ℕ → ReadAnswer
+readAnswer s =
+    record {
+      value = readOf s .value;
+      carried = readOf s .refusal .carries;
+      taken = readOf s .taken;
+      refusal = refusalNumber (readOf s .refusal);
+      start = readOf s .refusal .start;
+      width = readOf s .refusal .width;
     }
 
 -- the offset of the body is counted from the start of the block

@@ -7,12 +7,13 @@ use Rattle.listing.specs.Requested.{recordLine, listingOf}
 use Rattle.written.specs.Requested.{valueString, binaryString, messageOf}
 use Rattle.survey.specs.Surveys.{surveyOf}
 use Rattle.texts.specs.Pool.{bytesAt}
-use Rattle.capi.specs.Answers.{numberAnswer, entryAnswer, surveyAnswer, walkAnswer}
+use Rattle.capi.specs.Answers.{numberAnswer, readAnswer, entryAnswer, surveyAnswer, walkAnswer}
 use Rattle.capi.specs.Buffers.{filling, filledWith}
 use Rattle.capi.specs.Words.{decoding}
 use Rattle.capi.specs.declared.EntryAnswer.{EntryAnswer}
 use Rattle.capi.specs.declared.Filled.{Filled}
 use Rattle.capi.specs.declared.NumberAnswer.{NumberAnswer}
+use Rattle.capi.specs.declared.ReadAnswer.{ReadAnswer}
 use Rattle.capi.specs.declared.SurveyAnswer.{SurveyAnswer}
 use Rattle.capi.specs.declared.WalkAnswer.{WalkAnswer}
 use Rattle.walk.specs.Walks.{walking}
@@ -43,8 +44,13 @@ LineFilled (esr, index, before) r = r ≡ filledWith (recordLine esr index) befo
 abbrev pub ListingFilled : ℕ × List ℕ → Filled × List ℕ → Type 0
 ListingFilled (esr, before) r = r ≡ filledWith (listingOf esr) before
 
+-- the number of a whole input
 abbrev pub NumberAnswered : List ℕ → NumberAnswer → Type 0
 NumberAnswered s r = r ≡ numberAnswer s
+
+-- the number at the front of an input, and how many bytes it took
+abbrev pub ReadAnswered : List ℕ → ReadAnswer → Type 0
+ReadAnswered s r = r ≡ readAnswer s
 
 -- the numbers of an entry, and the offset of its body in the block
 abbrev pub EntryAnswered : List ℕ → EntryAnswer → Type 0

@@ -5,7 +5,7 @@ ghost use Prim.Native.Nat.{_≤_};
 ghost use Rattle.capi.specs.Answers.{filledOf};
 ghost use Rattle.capi.specs.Buffers.{front};
 ghost use Rattle.capi.specs.Words.{wordsOf, allWords};
-ghost use Rattle.capi.specs.Promises.{BinaryFilled, RecordsFilled, EntryAnswered, LineFilled, ListingFilled, MessageFilled, NumberAnswered, SurveyAnswered, TextFilled, ValueFilled, WalkAnswered};
+ghost use Rattle.capi.specs.Promises.{BinaryFilled, RecordsFilled, EntryAnswered, LineFilled, ListingFilled, MessageFilled, NumberAnswered, ReadAnswered, SurveyAnswered, TextFilled, ValueFilled, WalkAnswered};
 ghost use Rattle.records.specs.Sets.{setRoom};
 ghost use Rattle.refusals.specs.Refusals.{passed};
 ghost use Rattle.texts.specs.Pool.{bytesAt};
@@ -32,6 +32,17 @@ pub struct Filled {
 pub struct NumberAnswer {
     pub value: u64,
     pub carried: u64,
+    pub refusal: u8,
+    pub start: u8,
+    pub width: u8,
+}
+
+// The bytes that the number took stand at the front of the caller's own; what follows them is the caller's to judge (#107).
+#[repr(C)]
+pub struct ReadAnswer {
+    pub value: u64,
+    pub carried: u64,
+    pub taken: usize,
     pub refusal: u8,
     pub start: u8,
     pub width: u8,
@@ -206,6 +217,22 @@ pub extern "C" fn esr_parse_number(s: &[u8]) -> NumberAnswer
     NumberAnswer {
         value: number.value,
         carried: refusal.carries,
+        refusal: refusal.number(),
+        start: refusal.start,
+        width: refusal.width,
+    }
+}
+
+#[no_mangle]
+pub extern "C" fn esr_read_number(s: &[u8]) -> ReadAnswer
+    ensures { λ r. ⌜ ReadAnswered (now (s .entry)) r ⌝ }
+{
+    let read = number::read_number(s);
+    let refusal = read.refusal;
+    ReadAnswer {
+        value: read.value,
+        carried: refusal.carries,
+        taken: read.taken,
         refusal: refusal.number(),
         start: refusal.start,
         width: refusal.width,

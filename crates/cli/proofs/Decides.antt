@@ -4,4 +4,4 @@ use Rattle.promise.proofs.Laws.{same}
 use Rattle.cli.specs.Promises.{Answered}
 
 pub answer-decides : Decides Answered
-answer-decides kind a b = same
+answer-decides (kind, rest) a b = same

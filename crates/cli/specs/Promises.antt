@@ -3,6 +3,7 @@
 use Prim.Native.Nat.{ℕ}
 use mathlib.Core.Path.{_≡_}
 use Rattle.cli.specs.declared.Kind.{Kind}
+use Rattle.line_reader.specs.declared.Rest.{Rest}
 
-abbrev pub Answered : Kind → ℕ → Type 0
-Answered kind r = r ≡ 0
+abbrev pub Answered : Kind × Rest → ℕ → Type 0
+Answered (kind, rest) r = r ≡ 0

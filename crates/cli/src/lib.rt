@@ -1,8 +1,10 @@
 // What the programs for machines read and write: lines of any length, through fixed buffers. What they say of a line is promised by
-// `records_reply`; they differ in the kind of reply alone, so the reading of the input stands here.
+// `records_reply`; they differ in the kind of reply alone, so the reading of the input stands here. The caller says what is done with what stands behind a
+// number (#107).
 ghost use Rattle.cli.specs.Promises.{Answered};
 ghost use mathlib.Core.Path.{_≡_};
 use libc::STDIN_FILENO;
+use line_reader::Rest;
 use number::Number;
 use number::NumberState;
 use records_reply::put_number_reply;
@@ -34,7 +36,13 @@ fn reply(kind: Kind, buf: &mut [u8], at: usize, number: Number) -> usize {
 }
 
 // Answers the lines that end in a part of the input, and hands on the line that does not.
-fn answer_part(kind: Kind, from: NumberState, part: &[u8], buf: &mut [u8]) -> NumberState {
+fn answer_part(
+    kind: Kind,
+    rest: Rest,
+    from: NumberState,
+    part: &[u8],
+    buf: &mut [u8],
+) -> NumberState {
     let mut line = from;
     let mut next: usize = 0;
     let mut at: usize = 0;
@@ -43,7 +51,7 @@ fn answer_part(kind: Kind, from: NumberState, part: &[u8], buf: &mut [u8]) -> Nu
         line = taken.state;
         next = taken.next;
         if taken.ended {
-            at = reply(kind, buf, at, line.finish());
+            at = reply(kind, buf, at, line_reader::line_number(line, rest));
             line = NumberState::start();
         }
     }
@@ -51,19 +59,19 @@ fn answer_part(kind: Kind, from: NumberState, part: &[u8], buf: &mut [u8]) -> Nu
     line
 }
 
-// A last line without a line feed is one if it has a character.
-fn answer_last(kind: Kind, line: NumberState, buf: &mut [u8]) -> usize
+// A last line without a line feed is one if it has a byte.
+fn answer_last(kind: Kind, rest: Rest, line: NumberState, buf: &mut [u8]) -> usize
     ensures { λ r. ⌜ r ≡ 0 ⌝ }
 {
     if !line.is_open() {
         return 0;
     }
-    let end = reply(kind, buf, 0, line.finish());
+    let end = reply(kind, buf, 0, line_reader::line_number(line, rest));
     streams::flush(buf, end)
 }
 
 // A proved loop has to end, and nothing says that an input does: it counts down from a number of reads that no run uses up.
-fn answer_all(kind: Kind, part: &mut [u8], buf: &mut [u8]) -> usize
+fn answer_all(kind: Kind, rest: Rest, part: &mut [u8], buf: &mut [u8]) -> usize
     ensures { λ r. ⌜ r ≡ 0 ⌝ }
 {
     let mut line = NumberState::start();
@@ -72,19 +80,19 @@ fn answer_all(kind: Kind, part: &mut [u8], buf: &mut [u8]) -> usize
         let got = libc::read(STDIN_FILENO, part);
         let n = streams::count_read(got, part);
         if n == 0 {
-            return answer_last(kind, line, buf);
+            return answer_last(kind, rest, line, buf);
         }
-        line = answer_part(kind, line, &part[0..n], buf);
+        line = answer_part(kind, rest, line, &part[0..n], buf);
         turns -= 1;
     }
     0
 }
 
 // Answers each line of standard input. The answer is how many bytes of what it said are still held.
-pub fn answer(kind: Kind) -> usize
-    ensures { λ r. ⌜ Answered kind r ⌝ }
+pub fn answer(kind: Kind, rest: Rest) -> usize
+    ensures { λ r. ⌜ Answered (kind, rest) r ⌝ }
 {
     let mut part = io::large_buffer();
     let mut buf = io::large_buffer();
-    answer_all(kind, &mut part, &mut buf)
+    answer_all(kind, rest, &mut part, &mut buf)
 }

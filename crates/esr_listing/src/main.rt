@@ -1,6 +1,10 @@
 // A value on each line of standard input: the listing or the refusal of each, named where there are more than one. What is said of a line is
-// promised by `listing_reply`; here lines of any length are read and replies are written, through fixed buffers.
+// promised by `listing_reply`; here lines of any length are read and replies are written, through fixed buffers. A line is one whole number, or with
+// `--remarks` begins with one (#107).
 use libc::STDIN_FILENO;
+use line_reader::Rest;
+use line_reader::line_number;
+use line_reader::rest_asked;
 use listing_reply::put_listing_reply;
 use number::Number;
 use number::NumberState;
@@ -25,12 +29,12 @@ fn reply(buf: &mut [u8], at: usize, line: u64, number: Number) -> usize {
 }
 
 // Answers the line that is held, now that more follows it.
-fn answer_held(from: Standing, buf: &mut [u8]) -> Standing {
+fn answer_held(rest: Rest, from: Standing, buf: &mut [u8]) -> Standing {
     if !from.held {
         return from;
     }
     let line = from.line;
-    let at = reply(buf, 0, from.count, line.finish());
+    let at = reply(buf, 0, from.count, line_number(line, rest));
     streams::flush(buf, at);
     Standing {
         line: NumberState::start(),
@@ -49,7 +53,7 @@ fn is_followed(named: bool, part: &[u8], next: usize) -> bool {
 }
 
 // Answers the lines that end in a part of the input, and hands on where the run stands.
-fn answer_part(from: Standing, part: &[u8], buf: &mut [u8]) -> Standing {
+fn answer_part(rest: Rest, from: Standing, part: &[u8], buf: &mut [u8]) -> Standing {
     let mut line = from.line;
     let mut count = from.count;
     let mut named = from.named;
@@ -65,7 +69,7 @@ fn answer_part(from: Standing, part: &[u8], buf: &mut [u8]) -> Standing {
             named = is_followed(named, part, next);
             held = !named;
             if named {
-                at = reply(buf, at, count, line.finish());
+                at = reply(buf, at, count, line_number(line, rest));
                 line = NumberState::start();
             }
         }
@@ -79,7 +83,7 @@ fn answer_part(from: Standing, part: &[u8], buf: &mut [u8]) -> Standing {
     }
 }
 
-// Whether a line is still to be answered: one that is held, or a last one without a line feed that has a character.
+// Whether a line is still to be answered: one that is held, or a last one without a line feed that has a byte.
 fn is_left(standing: Standing) -> bool {
     if standing.held {
         return true;
@@ -96,17 +100,17 @@ fn last_number(standing: Standing) -> u64 {
     0
 }
 
-fn answer_last(standing: Standing, buf: &mut [u8]) {
+fn answer_last(rest: Rest, standing: Standing, buf: &mut [u8]) {
     if !is_left(standing) {
         return;
     }
     let line = standing.line;
-    let end = reply(buf, 0, last_number(standing), line.finish());
+    let end = reply(buf, 0, last_number(standing), line_number(line, rest));
     streams::flush(buf, end);
 }
 
 // A proved loop has to end, and nothing says that an input does: it counts down from a number of reads that no run uses up.
-fn answer_all(part: &mut [u8], buf: &mut [u8]) {
+fn answer_all(rest: Rest, part: &mut [u8], buf: &mut [u8]) {
     let mut standing = Standing {
         line: NumberState::start(),
         count: 0,
@@ -118,11 +122,11 @@ fn answer_all(part: &mut [u8], buf: &mut [u8]) {
         let got = libc::read(STDIN_FILENO, part);
         let n = streams::count_read(got, part);
         if n == 0 {
-            answer_last(standing, buf);
+            answer_last(rest, standing, buf);
             return;
         }
-        standing = answer_held(standing, buf);
-        standing = answer_part(standing, &part[0..n], buf);
+        standing = answer_held(rest, standing, buf);
+        standing = answer_part(rest, standing, &part[0..n], buf);
         turns -= 1;
     }
 }
@@ -130,5 +134,8 @@ fn answer_all(part: &mut [u8], buf: &mut [u8]) {
 fn main() {
     let mut part = io::large_buffer();
     let mut buf = io::large_buffer();
-    answer_all(&mut part, &mut buf);
+    let mut option = [0u8; 16];
+    let n = os::arg(1, &mut option);
+    let rest = rest_asked(&option[0..n]);
+    answer_all(rest, &mut part, &mut buf);
 }

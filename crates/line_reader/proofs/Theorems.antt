@@ -1,4 +1,5 @@
--- What the promise comes to: a line that comes in parts has the number of the whole line. By induction over the characters of a part.
+-- What the promises come to: a line that comes in parts has the number of the whole line, whatever is done with its rest. By induction over the bytes of a
+-- part.
 use Prim.Native.Nat.{ℕ, _+_}
 use mathlib.Core.Bool.{Bool, true, false, cond, not, _&&_}
 use mathlib.Core.List.{List, [], _∷_, _++_}
@@ -6,17 +7,18 @@ use mathlib.Core.Path.{_≡_, sym, ap, _∙_}
 use native.Mathlib.Omega.{arith}
 use lib.Dec.{T, eqb}
 use lib.ListN.{length}
-use Rattle.line_reader.specs.Lines.{lineFeed, partOf, oneLine}
+use Rattle.line_reader.specs.Lines.{lineFeed, partOf, oneLine, lineNumber, finishBy}
 use Rattle.line_reader.specs.declared.LinePart.{LinePart}
-use Rattle.number.proofs.Steps.{steps-number}
+use Rattle.line_reader.specs.declared.Rest.{Rest}
+use Rattle.line_reader.specs.declared.Rest.the-variants.{Whole, Skipped}
+use Rattle.number.proofs.Stops.{steps-before, steps-whole}
 use Rattle.number.proofs.Theorems.{steps-append}
-use Rattle.number.specs.Numbers.{numberOf}
-use Rattle.number.specs.Steps.{start, stepOf, stepsOf, finishOf}
+use Rattle.number.specs.Steps.{start, stepOf, handedOn, stepsOf}
 use Rattle.number.specs.declared.NumberState.{NumberState}
 
 -- what is read of a line does not depend on where the input is cut
 pub in-parts : (st : NumberState) (at : ℕ) (p q : List ℕ) → T (oneLine p) → partOf st at (p ++ q) ≡ partOf (stepsOf st p) (at + length p) q
-unfolding partOf stepsOf oneLine
+unfolding partOf handedOn oneLine
 in-parts st at [] q t = ap (λ (n : ℕ). partOf st n q) (omega arith)
 in-parts st at (b ∷ p) q t =
     by-feed (eqb b lineFeed) t
@@ -28,11 +30,15 @@ in-parts st at (b ∷ p) q t =
         ≡ partOf (stepsOf (stepOf st b) p) (at + length (b ∷ p)) q
     by-feed false u more = more u
 
+read-by-steps : (rest : Rest) (s : List ℕ) → finishBy rest (stepsOf start s) ≡ lineNumber rest s
+read-by-steps Whole s = steps-whole s
+read-by-steps Skipped s = steps-before s
+
 -- a line whose first bytes came in earlier parts, up to its line feed: its number is that of all its bytes
-pub line-number : (p q rest : List ℕ) (at : ℕ) → T (oneLine q)
-    → finishOf (partOf (stepsOf start p) at (q ++ (lineFeed ∷ rest)) .state) ≡ numberOf (p ++ q)
+pub line-number : (rest : Rest) (p q after : List ℕ) (at : ℕ) → T (oneLine q)
+    → finishBy rest (partOf (stepsOf start p) at (q ++ (lineFeed ∷ after)) .state) ≡ lineNumber rest (p ++ q)
 unfolding partOf
-line-number p q rest at t =
-    ap (λ (r : LinePart). finishOf (r .state)) (in-parts (stepsOf start p) at q (lineFeed ∷ rest) t)
-    ∙ ap finishOf (sym (steps-append start p q))
-    ∙ steps-number (p ++ q)
+line-number rest p q after at t =
+    ap (λ (r : LinePart). finishBy rest (r .state)) (in-parts (stepsOf start p) at q (lineFeed ∷ after) t)
+    ∙ ap (finishBy rest) (sym (steps-append start p q))
+    ∙ read-by-steps rest (p ++ q)

@@ -1,6 +1,15 @@
-// The bytes of a line, a part of the input at a time, so that lines of any length go through a fixed buffer.
-ghost use Rattle.line_reader.specs.Promises.{TookLine};
+// The bytes of a line, a part of the input at a time, so that lines of any length go through a fixed buffer; and the number of a line.
+ghost use Rattle.line_reader.specs.Promises.{NumberOfLine, RestAsked, TookLine};
+use number::Number;
 use number::NumberState;
+
+// What a caller does with what stands behind the number of a line (#107).
+pub enum Rest {
+    // Only stops may stand there: the line is one whole number.
+    Whole,
+    // It is a remark, which is passed over to the end of the line.
+    Skipped,
+}
 
 // How far a part of the input goes into a line: the state, the offset after what was taken, and whether a line feed ended the line.
 pub struct LinePart {
@@ -32,4 +41,24 @@ pub fn take_line(state: NumberState, s: &[u8], from: usize) -> LinePart
         next: at,
         ended: false,
     }
+}
+
+// The number of a line that has ended.
+pub fn line_number(state: NumberState, rest: Rest) -> Number
+    ensures { λ r. ⌜ NumberOfLine (state, rest) r ⌝ }
+{
+    match rest {
+        Rest::Whole => return state.finish(),
+        Rest::Skipped => return state.finish_before(),
+    }
+}
+
+// What a program's option asks for: `--remarks` passes over what stands behind the number; without it a line is one whole number.
+pub fn rest_asked(option: &[u8]) -> Rest
+    ensures { λ r. ⌜ RestAsked (now (option .entry)) r ⌝ }
+{
+    if words::is_word(option, b"--remarks") {
+        return Rest::Skipped;
+    }
+    Rest::Whole
 }

@@ -56,7 +56,7 @@ fn in_numbers(rule: u8) -> Descriptions
         rules::WNR_NOT_VALID => Descriptions(0x1, pool::WNR_NOT_VALID_FIRST),
         rules::MESSAGE => Descriptions(0xFE, pool::MESSAGE_FIRST),
         rules::MESSAGE_END => Descriptions(0x82, pool::MESSAGE_END_FIRST),
-        rules::OWN_WORDS => Descriptions(0x11_C700, pool::OWN_WORDS_FIRST),
+        rules::OWN_WORDS => Descriptions(0x91_C700, pool::OWN_WORDS_FIRST),
         _ => Descriptions(0, texts::COUNT as u16),
     }
 }

@@ -30,6 +30,7 @@ use Rattle.strings.specs.Fields.{valueText, binaryText, binarySuffix, fieldText
 use Rattle.written.specs.Outcomes.{Outcome, text as inFull, answered, left}
 use Rattle.number.specs.Digits.{digitOf}
 use Rattle.number.specs.Numbers.{numberOf, numberIn, readDigits, readDigit, startsWith}
+use Rattle.number.specs.Rest.{isStop, beforeStop, restOf, areStops, wholeOf}
 use Rattle.number.specs.declared.Number.{Number}
 use Rattle.marked.specs.Cases.{Fact, ofValue, withText, Expected, refusal, accepted, Case, cases, HoldsOf, Shown, AllShown, Met, AllHold, NumberHolds, listed, ended, ListingHolds}
 
@@ -121,8 +122,8 @@ all-hold (c ∷ cs) t = (
   all-hold cs (both-right (met (c .expected) (answerOf (c .esr))) (allMet cs) t),
 )
 
-read : numberOf (bytes "0x+f") ≡ record { value = 15; refusal = noRefusal }
-unfolding bytes numberOf numberIn readDigits readDigit startsWith digitOf
+read : wholeOf (bytes "0x+f") ≡ record { value = 15; refusal = noRefusal }
+unfolding bytes wholeOf isStop beforeStop restOf areStops numberOf numberIn readDigits readDigit startsWith digitOf
 read = refl
 
 in-full : listingOf 0x56000001 ≡ inFull (ended listed)

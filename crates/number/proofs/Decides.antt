@@ -1,5 +1,5 @@
 -- Each promise of this crate decides its answer: it says what the answer is.
-use Rattle.number.specs.Promises.{Finished, Opened, Parsed, Started, Stepped}
+use Rattle.number.specs.Promises.{Finished, FinishedBefore, Opened, Parsed, Started, Stepped, TookNumber}
 use Rattle.promise.proofs.Laws.{same}
 use Rattle.promise.specs.Promise.{Decides}
 
@@ -14,6 +14,12 @@ NumberState-is-open-decides st a b = same
 
 pub NumberState-finish-decides : Decides Finished
 NumberState-finish-decides st a b = same
+
+pub NumberState-finish-before-decides : Decides FinishedBefore
+NumberState-finish-before-decides st a b = same
+
+pub read-number-decides : Decides TookNumber
+read-number-decides s a b = same
 
 pub parse-number-decides : Decides Parsed
 parse-number-decides s a b = same

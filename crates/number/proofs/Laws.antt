@@ -1,10 +1,10 @@
 -- Laws that the functions' proofs cite: what a count says of a digit, and what a definition gives under the tests that the code made. A
 -- count is computed for every byte; the rest goes by the cases of the definitions.
 use Prim.Native.Nat.{ℕ, _+_, _-_, _*_, _/_, _%_, _^_, _≤_, _<_}
-use mathlib.Core.Bool.{Bool, true, false, cond, _&&_, and-true, and-false}
+use mathlib.Core.Bool.{Bool, true, false, false≢true, cond, not, _&&_, _||_, and-true, and-false}
 use mathlib.Core.List.{List, [], _∷_}
 use mathlib.Core.Logic.{_⊎_, inl, inr}
-use mathlib.Core.Path.{_≡_, refl, subst}
+use mathlib.Core.Path.{_≡_, refl, sym, ap, subst, _∙_}
 use native.Mathlib.Nat.{zero-add, add-mul, le-div-iff-mul-le, div-lt-iff-lt-mul, not-suc-le-zero}
 use native.Mathlib.Numerals.{add-one}
 use native.Mathlib.Omega.{arith}
@@ -12,10 +12,11 @@ use lib.Bits.{bitAnd}
 use lib.Dec.{T, eqb, leb, ltb, eqb→eq, leb→le}
 use lib.ListN.{length, getD, drop, drop-of-length-le}
 use lib.Seq.{drop-cons}
-use borrow.Author.Tests.{ltb-true, ltb-false, leb-false, lt-ltb, le-ltb, le-leb, lt-leb, eq-eqb, ne-eqb}
+use borrow.Author.Tests.{eqb-true, ltb-true, ltb-false, leb-false, lt-ltb, le-ltb, le-leb, lt-leb, eq-eqb, ne-eqb}
 use Rattle.number.specs.Digits.{baseOf, digitOf, noDigit}
 use Rattle.number.specs.Numbers.{inDigits, refused, grown, readDigit, readDigits, startsWith, isHex, unsigned, numberFrom, numberIn, numberOf}
-use Rattle.number.specs.Steps.{advanceOf, isDigits, stepOf, leadOf}
+use Rattle.number.specs.Rest.{isStop, beforeStop, areStops}
+use Rattle.number.specs.Steps.{advanceOf, isDigits, characterOf, stopOf, stepOf, leadOf, DigitsTo}
 use Rattle.number.specs.declared.Lead.{Lead}
 use Rattle.number.specs.declared.NumberState.{NumberState}
 use Rattle.promise.proofs.Tests.{from, from-at}
@@ -25,6 +26,15 @@ use Rattle.refusals.specs.declared.Reason.the-variants.{InvalidDigit, None, Pos
 pub either : {A : Type 0} (P : A → Type 0) (t : Bool) {a b : A} → P a → P b → P (cond t a b)
 either P true p q = p
 either P false p q = q
+
+-- and so where each outcome is known to be the test's
+pub by-test : (P : Bool → Type 0) (t : Bool) → (t ≡ true → P true) → (t ≡ false → P false) → P t
+by-test P true p q = p refl
+by-test P false p q = q refl
+
+pub un-not : (t : Bool) {u : Bool} → not t ≡ u → t ≡ not u
+un-not true e = ap not e
+un-not false e = ap not e
 
 -- Digits: a character is counted from "0", and in base 16 past "9" from "A" without bit 5.
 
@@ -152,16 +162,10 @@ module _ (st : NumberState) (b : ℕ) (P : NumberState → Type 0) where
       by-digit true e = bad
       by-digit false e = by-value (ltb (2 ^ 64 - 1) (grown st b)) refl (leb-false (baseOf (st .hex)) (digitOf b) e)
 
--- The loop over the digits: one turn, its end, and its end at a refusal.
-
-pub read-more : (st : NumberState) (s : List ℕ) (i : ℕ) → refused (st .reason) ≡ false → i < length s
-    → readDigits st (drop i s) ≡ readDigits (readDigit st (getD s i 0)) (drop (i + 1) s)
+-- a character, where none is refused yet
+pub read-more : (st : NumberState) (b : ℕ) (s : List ℕ) → refused (st .reason) ≡ false → readDigits st (b ∷ s) ≡ readDigits (readDigit st b) s
 unfolding readDigits
-read-more st s i free h = rw (add-one, drop-cons s i 0) (simp free)
-
-pub read-done : (st : NumberState) (s : List ℕ) (i : ℕ) → length s ≤ i → readDigits st (drop i s) ≡ st
-unfolding readDigits
-read-done st s i h = rw (drop-of-length-le s h)
+read-more st b s free = simp free
 
 -- the first offender answers: what stands after it changes nothing
 pub read-refused : (st : NumberState) (s : List ℕ) → refused (st .reason) ≡ true → readDigits st s ≡ st
@@ -169,21 +173,124 @@ unfolding readDigits
 read-refused st [] h = refl
 read-refused st (b ∷ s) h = simp h
 
--- A step, by the stage that its character leads to.
+-- Stops. Each comes before every digit, and before what may stand in front of the digits.
+
+-- where it is none of the first three the fourth decides
+pub stop-last : (b : ℕ) → (b ≡ 32 → ⊥) → (b ≡ 9 → ⊥) → (b ≡ 13 → ⊥) → isStop b ≡ eqb b 10
+unfolding isStop
+stop-last b h i j = simp (ne-eqb b 32 h, ne-eqb b 9 i, ne-eqb b 13 j)
+
+pub stop-low : (b : ℕ) → isStop b ≡ true → b ≤ 32
+unfolding isStop
+stop-low b e = by-byte (eqb b 32) (eqb b 9) (eqb b 13) (eqb b 10) refl refl refl refl e
+  where
+    by-byte : (t u v w : Bool) → eqb b 32 ≡ t → eqb b 9 ≡ u → eqb b 13 ≡ v → eqb b 10 ≡ w → (t || u || v || w) ≡ true → b ≤ 32
+    by-byte true u v w h i j k l = omega (arith, eqb-true b 32 h)
+    by-byte false true v w h i j k l = omega (arith, eqb-true b 9 i)
+    by-byte false false true w h i j k l = omega (arith, eqb-true b 13 j)
+    by-byte false false false true h i j k l = omega (arith, eqb-true b 10 k)
+    by-byte false false false false h i j k l = absurd (false≢true l)
+
+base-most : (hex : Bool) → baseOf hex ≤ noDigit
+base-most true = omega arith
+base-most false = omega arith
+
+-- so a stop is refused as a digit
+pub stop-refused : (st : NumberState) (b : ℕ) → isStop b ≡ true → refused (readDigit st b .reason) ≡ true
+stop-refused st b e =
+    let low : b ≤ 32 = stop-low b e in
+    let none : digitOf b ≡ noDigit = digit-none b (inl (omega arith)) (inl (omega arith)) (inl (omega arith)) in
+    read-by st b (λ (r : NumberState). refused (r .reason) ≡ true) refl refl (λ d f. absurd (omega (arith, base-most (st .hex))))
+
+-- what is left from an offset on: its end, a stop, or one byte more
+module _ (s : List ℕ) (i : ℕ) where
+  pub before-end : length s ≤ i → beforeStop (drop i s) ≡ []
+  unfolding beforeStop
+  before-end h = rw (drop-of-length-le s h)
+
+  pub stops-end : length s ≤ i → areStops (drop i s) ≡ true
+  unfolding areStops
+  stops-end h = rw (drop-of-length-le s h)
+
+  module _ (h : i < length s) where
+    pub before-stop : isStop (getD s i 0) ≡ true → beforeStop (drop i s) ≡ []
+    unfolding beforeStop
+    before-stop e = rw (drop-cons s i 0) (simp e)
+
+    pub before-more : isStop (getD s i 0) ≡ false → beforeStop (drop i s) ≡ getD s i 0 ∷ beforeStop (drop (i + 1) s)
+    unfolding beforeStop
+    before-more e = rw (add-one, drop-cons s i 0) (simp e)
+
+    pub stops-no : isStop (getD s i 0) ≡ false → areStops (drop i s) ≡ false
+    unfolding areStops
+    stops-no e = rw (drop-cons s i 0) (simp e)
+
+    pub stops-more : isStop (getD s i 0) ≡ true → areStops (drop i s) ≡ areStops (drop (i + 1) s)
+    unfolding areStops
+    stops-more e = rw (add-one, drop-cons s i 0) (simp e)
+
+-- The loop over the digits. At each turn the state so far, on what is left, leads to the whole answer.
+abbrev pub DigitsFrom : Lead → List ℕ → NumberState → ℕ → Type 0
+DigitsFrom l s st i =
+    (refused (st .reason) ≡ false)
+    × (readDigits (l .state) (beforeStop (drop (l .at) s)) ≡ readDigits st (beforeStop (drop i s)))
+    × (l .at + length (beforeStop (drop (l .at) s)) ≡ i + length (beforeStop (drop i s)))
+
+module _ (l : Lead) (s : List ℕ) (st : NumberState) (i : ℕ) (inv : DigitsFrom l s st i) where
+  -- at a stop and at the end nothing is left
+  pub digits-ended : beforeStop (drop i s) ≡ [] → DigitsTo l (drop (l .at) s) (record { state = st; at = i })
+  unfolding readDigits
+  digits-ended e = (sym (inv .1 ∙ ap (readDigits st) e), λ h. omega (arith, inv .2, ap length e))
+
+  module _ (h : i < length s) {next : NumberState} (d : next ≡ readDigit st (getD s i 0)) where
+    more : isStop (getD s i 0) ≡ false → readDigits st (beforeStop (drop i s)) ≡ readDigits next (beforeStop (drop (i + 1) s))
+    more e =
+        ap (readDigits st) (before-more s i h e)
+        ∙ read-more st (getD s i 0) (beforeStop (drop (i + 1) s)) (inv .0)
+        ∙ ap (λ (r : NumberState). readDigits r (beforeStop (drop (i + 1) s))) (sym d)
+
+    pub digits-refused : isStop (getD s i 0) ≡ false → refused (next .reason) ≡ true → DigitsTo l (drop (l .at) s) (record { state = next; at = i })
+    digits-refused e f = (sym (inv .1 ∙ more e ∙ read-refused next _ f), λ g. absurd (false≢true (sym g ∙ f)))
+
+    -- a character that is not refused is no stop
+    pub digits-more : refused (next .reason) ≡ false → DigitsFrom l s next (i + 1)
+    digits-more f =
+        let none : isStop (getD s i 0) ≡ false = by-test (λ (t : Bool). isStop (getD s i 0) ≡ t → t ≡ false) (isStop (getD s i 0))
+        (λ e g. absurd (false≢true (sym f ∙ ap (λ (r : NumberState). refused (r .reason)) d ∙ stop-refused st (getD s i 0) g)))
+        (λ e g. refl) refl in
+        (f, inv .1 ∙ more none, omega (arith, inv .2, ap length (before-more s i h none)))
+
+-- One byte: a stop, or a character by the stage that it leads to.
+
+-- the state after a byte that is no stop
+unfoldable pub nextOf : NumberState → ℕ → NumberState
+nextOf st b = cond (refused (st .reason)) st (characterOf st b)
 
 module _ (st : NumberState) (b : ℕ) where
   pub step-refused : refused (st .reason) ≡ true → stepOf st b ≡ st
   unfolding stepOf
   step-refused h = simp h
 
-  module _ (free : refused (st .reason) ≡ false) {a : NumberState} (e : a ≡ advanceOf st b) where
-    pub step-digit : isDigits (a .stage) ≡ true → stepOf st b ≡ readDigit a b
-    unfolding stepOf
-    step-digit d = rw e (simp (free, rw e at d))
+  pub step-stop : refused (st .reason) ≡ false → isStop b ≡ true → stepOf st b ≡ stopOf st
+  unfolding stepOf
+  step-stop free h = simp (free, h)
 
-    pub step-lead : isDigits (a .stage) ≡ false → stepOf st b ≡ a
-    unfolding stepOf
-    step-lead d = rw e (simp (free, rw e at d))
+  pub step-next : isStop b ≡ false → stepOf st b ≡ nextOf st b
+  unfolding stepOf nextOf
+  step-next h = simp h
+
+  pub next-refused : refused (st .reason) ≡ true → nextOf st b ≡ st
+  unfolding nextOf
+  next-refused h = simp h
+
+  module _ (free : refused (st .reason) ≡ false) {a : NumberState} (e : a ≡ advanceOf st b) where
+    pub next-digit : isDigits (a .stage) ≡ true → nextOf st b ≡ readDigit a b
+    unfolding nextOf
+    next-digit d = rw e (simp (free, rw e at d))
+
+    pub next-lead : isDigits (a .stage) ≡ false → nextOf st b ≡ a
+    unfolding nextOf
+    next-lead d = rw e (simp (free, rw e at d))
 
 -- A character before the digits: the end, a digit, or one that is taken.
 

@@ -11,17 +11,19 @@ use native.Mathlib.Omega.{arith}
 use lib.ListN.{length, replicate, length-append}
 use lib.Dec.{T, eqb, ltb, lt→ltb, ltb→lt}
 use borrow.Author.Tests.{eqb-false, ne-eqb, lt-ltb}
-use Rattle.number.proofs.Laws.{base-pos, either, digit-none, read-by, read-on, read-refused, unsigned-bare, unsigned-plus, number-some, number-plain}
-use Rattle.number.proofs.Steps.{read-stage, steps-refused}
+use Rattle.number.proofs.Laws.{base-pos, either, by-test, digit-none, read-by, read-on, read-refused, unsigned-bare, unsigned-plus, number-some, number-plain}
+use Rattle.number.proofs.Steps.{read-stage}
+use Rattle.number.proofs.Stops.{steps-refused}
 use Rattle.promise.proofs.Tests.{both-left, both-right, both-intro}
 use Rattle.number.specs.Digits.{baseOf, digitOf, noDigit}
 use Rattle.number.specs.Numbers.{inDigits, refused, readDigit, readDigits, startsWith, isHex, unprefixed, unsigned, digitsIn, numberFrom, numberIn, numberOf}
+use Rattle.number.specs.Rest.{isStop}
 use Rattle.number.specs.Positional.{areDigits, positionalValue, StandsFor, prefixOf}
-use Rattle.number.specs.Steps.{start, stageAfter, advanceOf, isDigits, stepOf, stepsOf, hasCharacter}
+use Rattle.number.specs.Steps.{start, stageAfter, advanceOf, isDigits, characterOf, endReason, isRemark, stopOf, stepOf, handedOn, stepsOf, hasCharacter}
 use Rattle.number.specs.declared.Number.{Number}
 use Rattle.number.specs.declared.NumberState.{NumberState}
 use Rattle.number.specs.declared.Stage.{Stage}
-use Rattle.number.specs.declared.Stage.the-variants.{Begin, Zero, Prefix, Sign, Digits}
+use Rattle.number.specs.declared.Stage.the-variants.{Begin, Zero, Prefix, Sign, Digits, Stopped, Remark}
 use Rattle.refusals.specs.Refusals.{bare, noRefusal}
 use Rattle.refusals.specs.declared.Reason.the-variants.{Empty, InvalidDigit, None, PosOverflow}
 use Rattle.refusals.specs.declared.Refusal.{Refusal}
@@ -34,7 +36,7 @@ no-digit-above b h = digit-none b (inr (omega arith)) (inr (omega arith)) (inr (
 
 -- characters in two parts are read one part after the other
 pub steps-append : (st : NumberState) (s t : List ℕ) → stepsOf st (s ++ t) ≡ stepsOf (stepsOf st s) t
-unfolding stepsOf
+unfolding handedOn
 steps-append st [] t = refl
 steps-append st (b ∷ s) t = steps-append (stepOf st b) s t
 
@@ -55,25 +57,40 @@ opens Zero b = either Open (eqb b (code "x")) refl refl
 opens Prefix b = either Open (eqb b (code "+")) refl refl
 opens Sign b = refl
 opens Digits b = refl
+opens Stopped b = refl
+opens Remark b = refl
+
+remark-open : (q : Stage) → isRemark q ≡ true → Open q
+remark-open Begin e = absurd (false≢true e)
+remark-open Zero e = refl
+remark-open Prefix e = refl
+remark-open Sign e = refl
+remark-open Digits e = refl
+remark-open Stopped e = refl
+remark-open Remark e = refl
 
 module _ (st : NumberState) (b : ℕ) where
-  read-opens : IsOpen (cond (isDigits (stageAfter (st .stage) b)) (readDigit (advanceOf st b) b) (advanceOf st b))
-  read-opens = either IsOpen (isDigits (stageAfter (st .stage) b)) (ap hasCharacter (read-stage (advanceOf st b) b)) (opens (st .stage) b)
+  -- any byte opens a state that is not refused
+  byte-opens : IsOpen (cond (isStop b) (stopOf st) (characterOf st b))
+  byte-opens =
+      either IsOpen (isStop b)
+      (by-test (λ (t : Bool). isRemark (st .stage) ≡ t → IsOpen (cond t st (record { value = st .value; reason = endReason (st .stage) (st .reason); hex = st .hex; stage = Stopped }))) (isRemark (st .stage)) (λ e f. remark-open (st .stage) f) (λ e f. refl) refl)
+      (either IsOpen (isDigits (stageAfter (st .stage) b)) (ap hasCharacter (read-stage (advanceOf st b) b)) (opens (st .stage) b))
 
   step-open : IsOpen st → IsOpen (stepOf st b)
   unfolding stepOf
-  step-open h = either IsOpen (refused (st .reason)) h read-opens
+  step-open h = either IsOpen (refused (st .reason)) h byte-opens
 
 steps-open : (st : NumberState) (s : List ℕ) → IsOpen st → IsOpen (stepsOf st s)
-unfolding stepsOf
+unfolding handedOn
 steps-open st [] h = h
 steps-open st (b ∷ s) h = steps-open (stepOf st b) s (step-open st b h)
 
--- a state is open just where there was a character
+-- a state is open just where there was a byte
 pub open-text : (s : List ℕ) → hasCharacter (stepsOf start s .stage) ≡ ltb 0 (length s)
-unfolding stepsOf stepOf
+unfolding handedOn stepOf
 open-text [] = refl
-open-text (b ∷ s) = steps-open (stepOf start b) s (read-opens start b) ∙ sym (lt-ltb 0 (length (b ∷ s)) (omega arith))
+open-text (b ∷ s) = steps-open (stepOf start b) s (byte-opens start b) ∙ sym (lt-ltb 0 (length (b ∷ s)) (omega arith))
 
 -- Digits.
 

@@ -14,7 +14,7 @@ use Rattle.line_reader.proofs.Laws.{part-goes-on}
 use Rattle.line_reader.specs.Lines.{lineFeed, partOf}
 use Rattle.line_reader.specs.declared.LinePart.{LinePart}
 use Rattle.number.proofs.Laws.{either}
-use Rattle.number.specs.Steps.{start, stepOf, finishOf, hasCharacter}
+use Rattle.number.specs.Steps.{start, stepOf, finishBeforeOf, hasCharacter}
 use Rattle.number.specs.declared.NumberState.{NumberState}
 use Rattle.number_lines.specs.Runs.{isFull, onLine, endLine, takeFrom, takeLast}
 use Rattle.number_lines.specs.declared.Lines.{Lines}
@@ -45,12 +45,12 @@ module _ (l : Lines) (run : List ℕ) where
     pub some-place : l .numbers + l .none < length run
     some-place = leb-false (length run) (l .numbers + l .none) h
 
-    pub end-number : passed (finishOf (l .line) .refusal) ≡ true
-        → endLine l run ≡ (record { line = start; numbers = l .numbers + 1; none = l .none }, set run (l .numbers) (finishOf (l .line) .value))
+    pub end-number : passed (finishBeforeOf (l .line) .refusal) ≡ true
+        → endLine l run ≡ (record { line = start; numbers = l .numbers + 1; none = l .none }, set run (l .numbers) (finishBeforeOf (l .line) .value))
     unfolding endLine
     end-number e = rw (h, e)
 
-    pub end-none : passed (finishOf (l .line) .refusal) ≡ false → endLine l run ≡ (record { line = start; numbers = l .numbers; none = l .none + 1 }, run)
+    pub end-none : passed (finishBeforeOf (l .line) .refusal) ≡ false → endLine l run ≡ (record { line = start; numbers = l .numbers; none = l .none + 1 }, run)
     unfolding endLine
     end-none e = rw (h, e)
 
@@ -137,7 +137,7 @@ pub same-places : (l : Lines) (run : List ℕ) → length (endLine l run .1) ≡
 unfolding endLine
 same-places l run =
     either (λ (r : Lines × List ℕ). length (r .1) ≡ length run) (isFull l (length run)) refl
-    (either (λ (r : Lines × List ℕ). length (r .1) ≡ length run) (passed (finishOf (l .line) .refusal)) (simp length-set) refl)
+    (either (λ (r : Lines × List ℕ). length (r .1) ≡ length run) (passed (finishBeforeOf (l .line) .refusal)) (simp length-set) refl)
 
 -- A part never ends before its offset, and where the run is not full it takes a byte: so a loop that takes part after part ends.
 

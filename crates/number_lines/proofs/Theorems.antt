@@ -12,15 +12,14 @@ use lib.Seq.{drop-append-add, drop-nil, sets, sets-eq, take-nil, take-at}
 use borrow.Author.Tests.{eqb-true, leb-true, lt-ltb}
 use Rattle.line_reader.specs.Lines.{lineFeed, oneLine}
 use Rattle.number.proofs.Laws.{either}
-use Rattle.number.proofs.Steps.{steps-number}
+use Rattle.number.proofs.Stops.{steps-before}
 use Rattle.number.proofs.Theorems.{open-text, steps-append}
-use Rattle.number.specs.Numbers.{numberOf}
-use Rattle.number.specs.Steps.{start, stepOf, stepsOf, finishOf, hasCharacter}
+use Rattle.number.specs.Steps.{start, stepOf, handedOn, stepsOf, finishBeforeOf, hasCharacter}
 use Rattle.number.specs.declared.Number.{Number}
 use Rattle.number.specs.declared.NumberState.{NumberState}
 use Rattle.number_lines.proofs.Laws.{end-full, end-none, end-number, last-none, last-open, goes-on, same-places, some-place, stopped, take-full}
 use Rattle.number_lines.proofs.Splitting.{line-alone, line-and-rest, longer-line}
-use Rattle.number_lines.specs.Lines.{holdsNumber, joined, linesOf, noneOf, numbersOf}
+use Rattle.number_lines.specs.Lines.{holdsNumber, inLine, joined, linesOf, noneOf, numbersOf}
 use Rattle.number_lines.specs.Runs.{endLine, Holds, isFull, noLines, onLine, takeFrom, takeLast, takeParts}
 use Rattle.number_lines.specs.declared.Lines.{Lines}
 use Rattle.number_lines.specs.declared.LinesPart.{LinesPart}
@@ -46,12 +45,12 @@ nothing-added l run = record { more = omega arith; bare = omega arith; stored = 
 module _ (l : Lines) (run : List ℕ) (h : isFull l (length run) ≡ false) where
   -- what holds of the run with a number more, and of the run with a line more that held none, holds at the end of a line
   end-by : (P : Lines × List ℕ → Type 0)
-      → (passed (finishOf (l .line) .refusal) ≡ true → P (record { line = start; numbers = l .numbers + 1; none = l .none }, set run (l .numbers) (finishOf (l .line) .value)))
-      → (passed (finishOf (l .line) .refusal) ≡ false → P (record { line = start; numbers = l .numbers; none = l .none + 1 }, run))
+      → (passed (finishBeforeOf (l .line) .refusal) ≡ true → P (record { line = start; numbers = l .numbers + 1; none = l .none }, set run (l .numbers) (finishBeforeOf (l .line) .value)))
+      → (passed (finishBeforeOf (l .line) .refusal) ≡ false → P (record { line = start; numbers = l .numbers; none = l .none + 1 }, run))
       → P (endLine l run)
-  end-by P one other = by-test (passed (finishOf (l .line) .refusal)) refl
+  end-by P one other = by-test (passed (finishBeforeOf (l .line) .refusal)) refl
     where
-      by-test : (b : Bool) → passed (finishOf (l .line) .refusal) ≡ b → P (endLine l run)
+      by-test : (b : Bool) → passed (finishBeforeOf (l .line) .refusal) ≡ b → P (endLine l run)
       by-test true e = rw (end-number l run h e) (one e)
       by-test false e = rw (end-none l run h e) (other e)
 
@@ -65,7 +64,7 @@ module _ (l : Lines) (run : List ℕ) (h : isFull l (length run) ≡ false) wher
       (end-by (λ (r : Lines × List ℕ). left (l .numbers) (l .none) run ≡ suc (length run - (r .0 .numbers + r .0 .none))) (λ e. omega arith) (λ e. omega arith))
 
   -- the line and what follows it
-  line-added : (line : List ℕ) (lines : List (List ℕ)) (out : Lines × List ℕ) → finishOf (l .line) ≡ numberOf line
+  line-added : (line : List ℕ) (lines : List (List ℕ)) (out : Lines × List ℕ) → finishBeforeOf (l .line) ≡ inLine line
       → Added (endLine l run .0 .numbers) (endLine l run .0 .none) (endLine l run .1) lines out
       → Added (l .numbers) (l .none) run (line ∷ lines) out
   unfolding numbersOf noneOf
@@ -76,7 +75,7 @@ module _ (l : Lines) (run : List ℕ) (h : isFull l (length run) ≡ false) wher
       record {
         more = rw one (omega (arith, a .more));
         bare = rw one (a .bare);
-        stored = rw (one, ← is) (a .stored ∙ ap (λ (k : ℕ). sets (set run (l .numbers) (finishOf (l .line) .value)) k (numbersOf lines)) (add-one (l .numbers)));
+        stored = rw (one, ← is) (a .stored ∙ ap (λ (k : ℕ). sets (set run (l .numbers) (finishBeforeOf (l .line) .value)) k (numbersOf lines)) (add-one (l .numbers)));
       })
       (λ e a.
       let other : holdsNumber line ≡ false = ap (λ (n : Number). passed (n .refusal)) (sym is) ∙ e in
@@ -104,14 +103,14 @@ full-adds l run lines h =
 abbrev Reads : Lines → List ℕ → Type 0
 Reads l line = T (oneLine line) × (l .line ≡ stepsOf start line)
 
-finished : (l : Lines) (line : List ℕ) → Reads l line → finishOf (l .line) ≡ numberOf line
-finished l line r = ap finishOf (r .1) ∙ steps-number line
+finished : (l : Lines) (line : List ℕ) → Reads l line → finishBeforeOf (l .line) ≡ inLine line
+finished l line r = ap finishBeforeOf (r .1) ∙ steps-before line
 
 opened : (l : Lines) (line : List ℕ) → Reads l line → hasCharacter (l .line .stage) ≡ ltb 0 (length line)
 opened l line r = ap (λ (st : NumberState). hasCharacter (st .stage)) (r .1) ∙ open-text line
 
 one-byte-more : (l : Lines) (line : List ℕ) (b : ℕ) → Reads l line → eqb b lineFeed ≡ false → Reads (onLine l (stepOf (l .line) b)) (line ++ (b ∷ []))
-unfolding stepsOf
+unfolding handedOn
 one-byte-more l line b r n =
     (longer-line line b (r .0) (is-true (ap not n)), ap (λ (st : NumberState). stepOf st b) (r .1) ∙ sym (steps-append start line (b ∷ [])))
 
@@ -125,7 +124,7 @@ last-adds l run (b ∷ line) h r =
 
 -- and from any byte of it on
 adds : (at : ℕ) (l : Lines) (run line w : List ℕ) → Reads l line → Adds l run (linesOf (line ++ w)) (lastOf (takeFrom l run at w))
-unfolding takeFrom stepsOf oneLine
+unfolding takeFrom handedOn oneLine
 adds at l run line [] r = by-full (isFull l (length run)) refl
   where
     by-full : (f : Bool) → isFull l (length run) ≡ f → Adds l run (linesOf (line ++ [])) (takeLast l run)
@@ -209,7 +208,7 @@ few-numbers (line ∷ lines) =
 
 -- however an input is cut into parts: a run of n places holds the numbers of the first n lines, in order, and how many of these held none
 pub first-lines : (parts : List (List ℕ)) (run : List ℕ) → Holds (take (length run) (linesOf (joined parts))) (takeParts noLines run parts)
-unfolding stepsOf oneLine
+unfolding handedOn oneLine
 first-lines parts run =
     let lines : List (List ℕ) = take (length run) (linesOf (joined parts)) in
     let all : length run - 0 ≡ length run = omega arith in

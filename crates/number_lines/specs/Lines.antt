@@ -3,8 +3,9 @@ use Prim.Native.Nat.{ℕ, suc}
 use mathlib.Core.Bool.{Bool, cond}
 use mathlib.Core.List.{List, [], _∷_, _++_}
 use lib.Dec.{eqb}
-use Rattle.line_reader.specs.Lines.{lineFeed}
-use Rattle.number.specs.Numbers.{numberOf}
+use Rattle.line_reader.specs.Lines.{lineFeed, lineNumber}
+use Rattle.line_reader.specs.declared.Rest.the-variants.{Skipped}
+use Rattle.number.specs.declared.Number.{Number}
 use Rattle.refusals.specs.Refusals.{passed}
 
 -- a byte in front of the first line, or alone on one
@@ -22,13 +23,16 @@ unfoldable pub joined : List (List ℕ) → List ℕ
 joined [] = []
 joined (part ∷ parts) = part ++ joined parts
 
--- a line holds a number: the whole line is one, as 01 reads it
+-- a line holds a number: it begins with one, and the rest of the line is skipped (#107)
+abbrev pub inLine : List ℕ → Number
+inLine line = lineNumber Skipped line
+
 abbrev pub holdsNumber : List ℕ → Bool
-holdsNumber line = passed (numberOf line .refusal)
+holdsNumber line = passed (inLine line .refusal)
 
 unfoldable pub numbersOf : List (List ℕ) → List ℕ
 numbersOf [] = []
-numbersOf (line ∷ lines) = cond (holdsNumber line) (numberOf line .value ∷ numbersOf lines) (numbersOf lines)
+numbersOf (line ∷ lines) = cond (holdsNumber line) (inLine line .value ∷ numbersOf lines) (numbersOf lines)
 
 unfoldable pub noneOf : List (List ℕ) → ℕ
 noneOf [] = 0

@@ -6,7 +6,7 @@ use mathlib.Core.Path.{_≡_}
 use lib.Dec.{eqb, leb}
 use lib.ListN.{length, set, take}
 use Rattle.line_reader.specs.Lines.{lineFeed}
-use Rattle.number.specs.Steps.{start, stepOf, finishOf, hasCharacter}
+use Rattle.number.specs.Steps.{start, stepOf, finishBeforeOf, hasCharacter}
 use Rattle.number.specs.declared.NumberState.{NumberState}
 use Rattle.number_lines.specs.Lines.{numbersOf, noneOf}
 use Rattle.number_lines.specs.declared.Lines.{Lines}
@@ -28,8 +28,8 @@ onLine l st = record { line = st; numbers = l .numbers; none = l .none }
 unfoldable pub endLine : Lines → List ℕ → Lines × List ℕ
 endLine l run =
     cond (isFull l (length run)) (l, run)
-    (cond (passed (finishOf (l .line) .refusal))
-    (record { line = start; numbers = l .numbers + 1; none = l .none }, set run (l .numbers) (finishOf (l .line) .value))
+    (cond (passed (finishBeforeOf (l .line) .refusal))
+    (record { line = start; numbers = l .numbers + 1; none = l .none }, set run (l .numbers) (finishBeforeOf (l .line) .value))
     (record { line = start; numbers = l .numbers; none = l .none + 1 }, run))
 
 -- bytes from an offset on, until they end or the run is full

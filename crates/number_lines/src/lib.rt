@@ -58,7 +58,7 @@ fn end_line(from: Lines, run: &mut [u64]) -> Lines
         return from;
     }
     let line = from.line;
-    let number = line.finish();
+    let number = line.finish_before();
     let refusal = number.refusal;
     let at = from.numbers;
     if refusal.number() != 0 {

@@ -23,6 +23,7 @@ pub enum Reason {
     BadTable,
     LongRun,
     LongBlock,
+    BadRest,
 }
 
 impl Reason {
@@ -51,6 +52,7 @@ impl Reason {
             Reason::BadTable => 18,
             Reason::LongRun => 19,
             Reason::LongBlock => 20,
+            Reason::BadRest => 23,
         }
     }
 }

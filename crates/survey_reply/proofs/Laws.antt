@@ -14,7 +14,8 @@ use Rattle.buffer.proofs.Appending.{measured, written}
 use Rattle.buffer.specs.Appending.{Appends}
 use Rattle.digits.specs.Digits.{digitsOf, enough, numeral, unpadded}
 use Rattle.number.proofs.Laws.{either}
-use Rattle.number.specs.Numbers.{numberOf, startsWith}
+use Rattle.number.specs.Numbers.{startsWith}
+use Rattle.number.specs.Rest.{wholeOf}
 use Rattle.number.specs.declared.Number.{Number}
 use Rattle.promise.proofs.Tests.{from, from-at}
 use Rattle.survey_reply.specs.Counts.{countFrom, placeFrom, placeOf, readCount, unsaid}
@@ -156,7 +157,7 @@ place-none line place h = let e : 72 - place ≡ 0 = omega arith in rw e
 
 -- what is read of a line
 module _ (line : List ℕ) where
-  count-read : placeOf line < 72 → readCount line ≡ countFrom (placeOf line) (numberOf (drop (length (front (placeOf line))) line))
+  count-read : placeOf line < 72 → readCount line ≡ countFrom (placeOf line) (wholeOf (drop (length (front (placeOf line))) line))
   unfolding readCount
   count-read h = rw (lt-ltb (placeOf line) 72 h)
 
@@ -166,7 +167,7 @@ module _ (line : List ℕ) where
 
   -- by the place that was found, and the number that was read after its label
   pub found-read : {place next : ℕ} {number : Number} → place ≡ placeOf line → place < 72 → next ≡ length (front place)
-      → number ≡ numberOf (take (length line - next) (drop next line)) → countFrom place number ≡ readCount line
+      → number ≡ wholeOf (take (length line - next) (drop next line)) → countFrom place number ≡ readCount line
   found-read {place} {next} is h e n =
       let all : take (length line - next) (drop next line) ≡ drop next line = take-all (length line - next) (drop next line) (omega (arith, length-drop next line)) in
       sym (count-read (omega (arith, is)) ∙ rw (← is, ← e, n, all))

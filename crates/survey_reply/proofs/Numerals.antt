@@ -1,8 +1,9 @@
 -- A number that was written in decimal is read back: the value of its digits by their positions is the number, by induction over how many there are.
 use Prim.Native.Char.{code}
 use Prim.Native.Nat.{ℕ, zero, suc, _+_, _*_, _/_, _%_, _^_, _≤_, _<_}
-use mathlib.Core.Bool.{Bool, and-false, false}
+use mathlib.Core.Bool.{Bool, and-false, true, false, not}
 use mathlib.Core.List.{List, [], _∷_}
+use mathlib.Core.Logic.{inl}
 use mathlib.Core.Path.{_≡_, refl, sym, ap, subst, _∙_}
 use native.Mathlib.Nat.{mod-eq-of-lt, mod-lt, not-suc-le-zero, one-le-pow, pow-succ', pow-zero, zero-add}
 use native.Mathlib.Omega.{arith}
@@ -13,12 +14,14 @@ use borrow.Author.Tests.{ne-eqb}
 use Rattle.digits.proofs.Numerals.{enough-by, length-digits}
 use Rattle.digits.proofs.Theorems.{fewest}
 use Rattle.digits.specs.Digits.{digitChar, digitsOf, numeral, unpadded}
-use Rattle.number.proofs.Laws.{unsigned-bare}
+use Rattle.number.proofs.Laws.{digit-none, stop-low, unsigned-bare}
+use Rattle.number.proofs.Rest.{no-stop-old}
 use Rattle.number.proofs.Theorems.{accepts}
 use Rattle.number.specs.Digits.{digitOf}
 use Rattle.number.specs.Numbers.{isHex, numberOf, startsWith, unsigned}
 use Rattle.number.specs.Positional.{areDigits, positionalValue, StandsFor}
-use Rattle.promise.proofs.Tests.{both-intro, both-left, both-right, from, from-at}
+use Rattle.number.specs.Rest.{isStop, noStop, wholeOf}
+use Rattle.promise.proofs.Tests.{both-intro, both-left, both-right, from, from-at, is-true}
 use Rattle.refusals.specs.Refusals.{noRefusal}
 use Rattle.texts.specs.Pool.{bytes}
 
@@ -74,7 +77,7 @@ some-digit : (v : ℕ) → 1 ≤ unpadded 10 v
 unfolding unpadded
 some-digit v = enough-by 10 v (λ n tries r. 1 ≤ n → 1 ≤ r) (λ n h. h) (λ n tries held h. h) (λ n tries r more rest h. rest (omega arith)) 1 63 (omega arith)
 
-pub numeral-read : (v : ℕ) → v < 2 ^ 64 → numberOf (numeral 10 v) ≡ record { value = v; refusal = noRefusal }
+numeral-read : (v : ℕ) → v < 2 ^ 64 → numberOf (numeral 10 v) ≡ record { value = v; refusal = noRefusal }
 numeral-read v small = accepts (numeral 10 v) v (stands (numeral 10 v) (written-digits v (unpadded 10 v)) some (sym value))
   where
     some : 1 ≤ length (numeral 10 v)
@@ -92,3 +95,24 @@ numeral-read v small = accepts (numeral 10 v) v (stands (numeral 10 v) (written-
           worth = rw (no-prefix (b ∷ s) t, unsigned-digits b s t) e;
           small = small;
         }
+
+-- no digit is a stop, so that the whole of a numeral is read (#107)
+digit-goes-on : (b : ℕ) → digitOf b < 10 → isStop b ≡ false
+digit-goes-on b h = by-test (isStop b) refl
+  where
+    by-test : (t : Bool) → isStop b ≡ t → t ≡ false
+    by-test true e =
+        let low : b ≤ 32 = stop-low b e in
+        let none : digitOf b ≡ 16 = digit-none b (inl (omega arith)) (inl (omega arith)) (inl (omega arith)) in
+        absurd (omega arith)
+    by-test false e = refl
+
+no-stop-digits : (s : List ℕ) → T (areDigits 10 s) → T (noStop s)
+unfolding areDigits noStop
+no-stop-digits [] t = tt
+no-stop-digits (b ∷ s) t =
+    both-intro (not (isStop b)) (noStop s) (is-true (ap not (digit-goes-on b (first-digit b s t))))
+    (no-stop-digits s (both-right (ltb (digitOf b) 10) (areDigits 10 s) t))
+
+pub numeral-whole : (v : ℕ) → v < 2 ^ 64 → wholeOf (numeral 10 v) ≡ record { value = v; refusal = noRefusal }
+numeral-whole v small = no-stop-old (numeral 10 v) (no-stop-digits (numeral 10 v) (written-digits v (unpadded 10 v))) .0 ∙ numeral-read v small

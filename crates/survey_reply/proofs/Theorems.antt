@@ -14,7 +14,7 @@ use Rattle.digits.specs.Digits.{digitChar, digitsOf, enough, numeral, unpadded}
 use Rattle.number.specs.Digits.{digitOf}
 use Rattle.number.specs.Numbers.{startsWith}
 use Rattle.promise.proofs.Tests.{from, from-at}
-use Rattle.survey_reply.proofs.Numerals.{numeral-read}
+use Rattle.survey_reply.proofs.Numerals.{numeral-whole}
 use Rattle.survey_reply.specs.Counts.{placeFrom, placeOf, readCount}
 use Rattle.survey_reply.specs.Replies.{countText, front, label, noNumber}
 use Rattle.texts.specs.Pool.{bytes}
@@ -88,4 +88,4 @@ module _ (place : ℕ) (h : place < 72) (w : List ℕ) where
 pub read-back : (place count : ℕ) → place < 72 → count < 2 ^ 64 → readCount (countText place count) ≡ record { count = count; place = place; said = true }
 unfolding readCount countText
 read-back place count h small =
-    rw (place-found place h (numeral 10 count), lt-ltb place 72 h, drop-at (front place) (numeral 10 count) (length (front place)) refl, numeral-read count small)
+    rw (place-found place h (numeral 10 count), lt-ltb place 72 h, drop-at (front place) (numeral 10 count) (length (front place)) refl, numeral-whole count small)

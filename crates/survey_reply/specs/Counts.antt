@@ -1,10 +1,11 @@
--- A line of a survey read back: the label of a place and a space, then a number as 01 reads one.
+-- A line of a survey read back: the label of a place and a space, then one whole number.
 use Prim.Native.Nat.{ℕ, zero, suc}
 use mathlib.Core.Bool.{true, false, cond}
 use mathlib.Core.List.{List}
 use lib.Dec.{ltb}
 use lib.ListN.{length, drop}
-use Rattle.number.specs.Numbers.{numberOf, startsWith}
+use Rattle.number.specs.Numbers.{startsWith}
+use Rattle.number.specs.Rest.{wholeOf}
 use Rattle.number.specs.declared.Number.{Number}
 use Rattle.refusals.specs.Refusals.{passed}
 use Rattle.survey_reply.specs.Replies.{front, places}
@@ -26,4 +27,4 @@ abbrev pub countFrom : ℕ → Number → Count
 countFrom place number = cond (passed (number .refusal)) (record { count = number .value; place = place; said = true }) unsaid
 
 unfoldable pub readCount : List ℕ → Count
-readCount line = cond (ltb (placeOf line) places) (countFrom (placeOf line) (numberOf (drop (length (front (placeOf line))) line))) unsaid
+readCount line = cond (ltb (placeOf line) places) (countFrom (placeOf line) (wholeOf (drop (length (front (placeOf line))) line))) unsaid

@@ -1,9 +1,10 @@
-// The answers of the number reader and of the entry reader to many inputs, as standard input asks for them; each run of equal answers is one
+// The answers of the number readers and of the entry reader to many inputs, as standard input asks for them; each run of equal answers is one
 // line, its count in front. An answer shows every number of it and every byte, refused or not.
 //
 // A request: what to make, the least and the greatest length of an input (three bytes each), how many bytes follow (two), and the bytes.
-//   'w'  numbers: every word of these bytes
-//   'n'  numbers: what begins with these bytes and goes on with 0xFF, of each length
+//   'w'  whole numbers: every word of these bytes
+//   'f'  numbers at the front (#107): the same
+//   'n'  whole numbers: what begins with these bytes and goes on with 0xFF, of each length
 //   'e'  entries: the same
 ghost use Prim.Native.Nat.{_<_};
 ghost use lib.ListN.{length};
@@ -12,6 +13,7 @@ use buffer::put_bytes;
 use digits::Base;
 use digits::put_number;
 use libc::STDOUT_FILENO;
+use refusals::Refusal;
 
 const HEAD: usize = 9;
 
@@ -67,13 +69,26 @@ fn wide(byte: u8) -> u64
     byte as u64
 }
 
+// What every answer begins with: the refusal and a number.
+fn put_head(buf: &mut [u8], refusal: Refusal, number: u64) -> usize {
+    let mut at = put_number(buf, 0, Base::Decimal, refusal.number() as u64);
+    at = put_bytes(buf, at, b" ");
+    put_number(buf, at, Base::Hex, number)
+}
+
 fn number_line(text: &[u8]) -> Line {
     let number = number::parse_number(text);
-    let refusal = number.refusal;
     let mut bytes = [0u8; WIDTH];
-    let mut at = put_number(&mut bytes, 0, Base::Decimal, refusal.number() as u64);
+    let at = put_head(&mut bytes, number.refusal, number.value);
+    Line { bytes, length: at }
+}
+
+fn front_line(text: &[u8]) -> Line {
+    let read = number::read_number(text);
+    let mut bytes = [0u8; WIDTH];
+    let mut at = put_head(&mut bytes, read.refusal, read.value);
     at = put_bytes(&mut bytes, at, b" ");
-    at = put_number(&mut bytes, at, Base::Hex, number.value);
+    at = put_number(&mut bytes, at, Base::Decimal, read.taken as u64);
     Line { bytes, length: at }
 }
 
@@ -92,15 +107,22 @@ fn put_each(buf: &mut [u8], from: usize, bytes: &[u8]) -> usize {
 fn entry_line(block: &[u8]) -> Line {
     let entry = entry::read_entry(block);
     let body = entry::entry_body(block);
-    let refusal = entry.refusal;
     let mut bytes = [0u8; WIDTH];
-    let mut at = put_number(&mut bytes, 0, Base::Decimal, refusal.number() as u64);
-    at = put_bytes(&mut bytes, at, b" ");
-    at = put_number(&mut bytes, at, Base::Hex, entry.sequence as u64);
+    let mut at = put_head(&mut bytes, entry.refusal, entry.sequence as u64);
     at = put_bytes(&mut bytes, at, b" ");
     at = put_number(&mut bytes, at, Base::Hex, entry.esr);
     at = put_each(&mut bytes, at, body);
     Line { bytes, length: at }
+}
+
+fn line_of(kind: u8, part: &[u8]) -> Line {
+    if kind == b'e' {
+        return entry_line(part);
+    }
+    if kind == b'f' {
+        return front_line(part);
+    }
+    number_line(part)
 }
 
 // The letters are counted round and round.
@@ -127,21 +149,21 @@ fn spell(letters: &[u8], index: u64, text: &mut [u8]) -> u64 {
     rest
 }
 
-fn with_words(run: Run, letters: &[u8], text: &mut [u8]) -> Run {
+fn with_words(run: Run, kind: u8, letters: &[u8], text: &mut [u8]) -> Run {
     let mut next = run;
     let mut index: u64 = 0;
     while index < WORDS {
         if spell(letters, index, text) != 0 {
             return next;
         }
-        next = with_line(next, number_line(text));
+        next = with_line(next, line_of(kind, text));
         index += 1;
     }
     next
 }
 
 // Every word of each length.
-fn with_lengths(run: Run, letters: &[u8], least: usize, greatest: usize) -> Run {
+fn with_lengths(run: Run, kind: u8, letters: &[u8], least: usize, greatest: usize) -> Run {
     let mut next = run;
     let mut length = least;
     while length <= greatest {
@@ -149,17 +171,10 @@ fn with_lengths(run: Run, letters: &[u8], least: usize, greatest: usize) -> Run 
             return next;
         }
         let mut text = [0u8; LETTERS];
-        next = with_words(next, letters, &mut text[0..length]);
+        next = with_words(next, kind, letters, &mut text[0..length]);
         length += 1;
     }
     next
-}
-
-fn line_of(kind: u8, part: &[u8]) -> Line {
-    if kind == b'e' {
-        return entry_line(part);
-    }
-    number_line(part)
 }
 
 fn with_parts(run: Run, kind: u8, block: &[u8], least: usize, greatest: usize) -> Run {
@@ -218,8 +233,8 @@ fn with_request(run: Run, head: &[u8], bytes: &[u8], block: &mut [u8]) -> Run {
         return run;
     }
     let kind = head[0];
-    if kind == b'w' {
-        return with_lengths(run, bytes, least, greatest);
+    if kind == b'w' || kind == b'f' {
+        return with_lengths(run, kind, bytes, least, greatest);
     }
     if block.len() < greatest {
         return run;

@@ -414,6 +414,7 @@ ownWords =
     15 means "the entry's length is not 11" ∷
     16 means "the entry's version is not 1" ∷
     20 means "the block is longer than 65,536 bytes" ∷
+    23 means "something else stands behind the number" ∷
     [])
 
 unfoldable pub rules : List Rule

@@ -1,11 +1,11 @@
 // The pool, where each text starts in it, and the first code of each rule of more than one bit. Written by tools/pool from the
 // strings of specs/Names.antt and specs/Rules.antt; the prover shows that it is their bytes.
 
-pub const LENGTH: usize = 7684;
+pub const LENGTH: usize = 7723;
 pub const COUNT: usize = 531;
 pub const START_COUNT: usize = 532;
 
-pub const POOL: [u8; 7684] = *b"\
+pub const POOL: [u8; 7723] = *b"\
     RES0\
     Reserved\
     ISS2\
@@ -314,6 +314,7 @@ pub const POOL: [u8; 7684] = *b"\
     the entry's length is not 11\
     the entry's version is not 1\
     the block is longer than 65,536 bytes\
+    something else stands behind the number\
 ";
 
 pub const STARTS: [u16; 532] = [
@@ -349,8 +350,8 @@ pub const STARTS: [u16; 532] = [
     7330, 7330, 7330, 7330, 7330, 7330, 7330, 7330, 7330, 7330, 7330, 7330, 7330, 7330, 7330, 7330,
     7330, 7330, 7330, 7350, 7350, 7371, 7382, 7403, 7415, 7427, 7438, 7450, 7450, 7457, 7457, 7457,
     7457, 7457, 7457, 7485, 7485, 7485, 7485, 7485, 7485, 7485, 7485, 7485, 7502, 7525, 7556, 7556,
-    7556, 7556, 7591, 7619, 7647, 7647, 7647, 7647, 7684, 7684, 7684, 7684, 7684, 7684, 7684, 7684,
-    7684, 7684, 7684, 7684,
+    7556, 7556, 7591, 7619, 7647, 7647, 7647, 7647, 7684, 7684, 7684, 7723, 7723, 7723, 7723, 7723,
+    7723, 7723, 7723, 7723,
 ];
 
 // The rules of one bit have two codes each, from here on.

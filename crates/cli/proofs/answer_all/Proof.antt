@@ -6,10 +6,10 @@ use Rattle.cli.proofs.answer_all.Statement.{statement}
 use Rattle.cli.proofs.answer_all.Tie as tie
 
 abbrev Inv-loop : tie.InvT-loop
-Inv-loop kind part₀ buf₀ line₀ turns₀ part buf line turns = (length part ≡ length part₀) × (length buf ≡ length buf₀)
+Inv-loop kind rest part₀ buf₀ line₀ turns₀ part buf line turns = (length part ≡ length part₀) × (length buf ≡ length buf₀)
 
 abbrev μ-loop : tie.MeasureT-loop
-μ-loop kind part₀ buf₀ line₀ turns₀ part buf line turns = turns
+μ-loop kind rest part₀ buf₀ line₀ turns₀ part buf line turns = turns
 
 pub answer-all-spec : {M : Type 1} → statement M
 answer-all-spec =

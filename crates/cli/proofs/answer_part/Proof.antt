@@ -9,10 +9,10 @@ use Rattle.cli.proofs.answer_part.Statement.{statement}
 use Rattle.cli.proofs.answer_part.Tie as tie
 
 abbrev Inv-loop : tie.InvT-loop
-Inv-loop kind part buf₀ line₀ next₀ at₀ buf line next at = length buf ≡ length buf₀
+Inv-loop kind rest part buf₀ line₀ next₀ at₀ buf line next at = length buf ≡ length buf₀
 
 abbrev μ-loop : tie.MeasureT-loop
-μ-loop kind part buf₀ line₀ next₀ at₀ buf line next at = length part - next
+μ-loop kind rest part buf₀ line₀ next₀ at₀ buf line next at = length part - next
 
 loop-less : tie.Need-loop-less Inv-loop μ-loop
 loop-less c =

@@ -9,10 +9,10 @@ use Rattle.esr_listing.proofs.answer_part.Statement.{statement}
 use Rattle.esr_listing.proofs.answer_part.Tie as tie
 
 abbrev Inv-loop : tie.InvT-loop
-Inv-loop part buf₀ line₀ count₀ named₀ held₀ next₀ at₀ buf line count named held next at = length buf ≡ length buf₀
+Inv-loop rest part buf₀ line₀ count₀ named₀ held₀ next₀ at₀ buf line count named held next at = length buf ≡ length buf₀
 
 abbrev μ-loop : tie.MeasureT-loop
-μ-loop part buf₀ line₀ count₀ named₀ held₀ next₀ at₀ buf line count named held next at = length part - next
+μ-loop rest part buf₀ line₀ count₀ named₀ held₀ next₀ at₀ buf line count named held next at = length part - next
 
 loop-less : tie.Need-loop-less Inv-loop μ-loop
 loop-less c =

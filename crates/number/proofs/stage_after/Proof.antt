@@ -58,6 +58,20 @@ returns-9 : tie.Need-returns-9
 unfolding stageAfter
 returns-9 c = sym (ap (λ (q : Stage). stageAfter q (c .before .before .args .b)) (c .enum-told5 .given .1))
 
+enum-told-6 : tie.Need-enum-told-6
+enum-told-6 c = search needs
+
+returns-10 : tie.Need-returns-10
+unfolding stageAfter
+returns-10 c = sym (ap (λ (q : Stage). stageAfter q (c .before .before .args .b)) (c .enum-told6 .given .1))
+
+enum-told-7 : tie.Need-enum-told-7
+enum-told-7 c = search needs
+
+returns-11 : tie.Need-returns-11
+unfolding stageAfter
+returns-11 c = sym (ap (λ (q : Stage). stageAfter q (c .before .before .args .b)) (c .enum-told7 .given .1))
+
 pub stage-after-spec : {M : Type 1} → statement M
 stage-after-spec =
-    tie.close (tie.spec enum-told returns returns-2 returns-3 enum-told-2 returns-4 returns-5 enum-told-3 returns-6 returns-7 enum-told-4 returns-8 enum-told-5 returns-9)
+    tie.close (tie.spec enum-told returns returns-2 returns-3 enum-told-2 returns-4 returns-5 enum-told-3 returns-6 returns-7 enum-told-4 returns-8 enum-told-5 returns-9 enum-told-6 returns-10 enum-told-7 returns-11)

@@ -33,9 +33,9 @@ returns-2 c =
     let d = n .before .before in
     let i = d .before .before in
     let a = i .before .before .before .args in
-    let no = passed-no (d .finish .result .refusal) (n .number .ensures) (f .if2 .taken) in
+    let no = passed-no (d .finish-before .result .refusal) (n .number .ensures) (f .if2 .taken) in
     ap (λ (st : NumberState). (record { line = st; numbers = a .from .numbers; none = a .from .none + 1 }, a .run .now)) (c .before .start .ensures)
-    ∙ sym (end-none (a .from) (a .run .now) (sym (i .before .is-full .ensures) ∙ i .if1 .left) (ap (λ (m : Number). passed (m .refusal)) (sym (d .finish .ensures)) ∙ no))
+    ∙ sym (end-none (a .from) (a .run .now) (sym (i .before .is-full .ensures) ∙ i .if1 .left) (ap (λ (m : Number). passed (m .refusal)) (sym (d .finish-before .ensures)) ∙ no))
 
 mul-run : tie.Need-mul-run
 mul-run c = omega (arith, place (c .before .before .before .before .before))
@@ -53,10 +53,10 @@ returns-3 c =
     let d = n .before .before in
     let i = d .before .before in
     let a = i .before .before .before .args in
-    let yes = passed-yes (d .finish .result .refusal) (n .number .ensures) (omega (arith, f .if2 .left)) in
+    let yes = passed-yes (d .finish-before .result .refusal) (n .number .ensures) (omega (arith, f .if2 .left)) in
     ap₂ (λ (st : NumberState) (v : ℕ). (record { line = st; numbers = a .from .numbers + 1; none = a .from .none }, set (a .run .now) (a .from .numbers) v))
-    (c .start2 .ensures) (ap (λ (m : Number). m .value) (d .finish .ensures))
-    ∙ sym (end-number (a .from) (a .run .now) (sym (i .before .is-full .ensures) ∙ i .if1 .left) (ap (λ (m : Number). passed (m .refusal)) (sym (d .finish .ensures)) ∙ yes))
+    (c .start2 .ensures) (ap (λ (m : Number). m .value) (d .finish-before .ensures))
+    ∙ sym (end-number (a .from) (a .run .now) (sym (i .before .is-full .ensures) ∙ i .if1 .left) (ap (λ (m : Number). passed (m .refusal)) (sym (d .finish-before .ensures)) ∙ yes))
 
 pub end-line-spec : {M : Type 1} → statement M
 end-line-spec =

@@ -5,10 +5,10 @@ use Rattle.test_readers.proofs.with_lengths.Statement.{statement}
 use Rattle.test_readers.proofs.with_lengths.Tie as tie
 
 abbrev Inv-loop : tie.InvT-loop
-Inv-loop letters least greatest next₀ length₀ next length = Unit {0}
+Inv-loop kind letters least greatest next₀ length₀ next length = Unit {0}
 
 abbrev μ-loop : tie.MeasureT-loop
-μ-loop letters least greatest next₀ length₀ next length = suc greatest - length
+μ-loop kind letters least greatest next₀ length₀ next length = suc greatest - length
 
 loop-holds : tie.Need-loop-holds Inv-loop μ-loop
 loop-holds c = search needs

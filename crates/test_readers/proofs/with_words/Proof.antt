@@ -7,10 +7,10 @@ use Rattle.test_readers.proofs.with_words.Statement.{statement}
 use Rattle.test_readers.proofs.with_words.Tie as tie
 
 abbrev Inv-loop : tie.InvT-loop
-Inv-loop letters text₀ next₀ index₀ text next index = (index ≤ 0x1000000) × (length text ≡ length text₀)
+Inv-loop kind letters text₀ next₀ index₀ text next index = (index ≤ 0x1000000) × (length text ≡ length text₀)
 
 abbrev μ-loop : tie.MeasureT-loop
-μ-loop letters text₀ next₀ index₀ text next index = 0x1000000 - index
+μ-loop kind letters text₀ next₀ index₀ text next index = 0x1000000 - index
 
 loop-holds : tie.Need-loop-holds Inv-loop μ-loop
 loop-holds c = search needs
@@ -24,8 +24,8 @@ same-length c = search needs
 returns : tie.Need-returns Inv-loop μ-loop
 returns c = search needs
 
-number-line-requires : tie.Need-number-line-requires Inv-loop μ-loop
-number-line-requires c κs = search needs
+line-of-requires : tie.Need-line-of-requires Inv-loop μ-loop
+line-of-requires c κs = search needs
 
 with-line-requires : tie.Need-with-line-requires Inv-loop μ-loop
 with-line-requires c κs = search needs
@@ -55,7 +55,7 @@ with-words-spec =
     spell-requires
     same-length
     returns
-    number-line-requires
+    line-of-requires
     with-line-requires
     add-index
     loop-less
