@@ -23,7 +23,7 @@ use Rattle.records.specs.declared.Row.{Row}
 use Rattle.records.proofs.Laws.{pushed, pushedAll, pushed-all, pushed-last, pushed-count, written}
 use Rattle.tables.specs.Shape.{Table}
 use Rattle.tables.specs.Applying.{rowsFor}
-use Rattle.tables.specs.Tables.{topRows, reserved, Served, layouts, undivided}
+use Rattle.tables.specs.Tables.{topRows, reserved, Served, layouts, msr}
 use Rattle.layouts.specs.Layouts.{layoutRoom, pad, layoutFor}
 use Rattle.layouts.specs.Layouts.{tablesOf, tableOf, empty, numberIn, layoutNumber}
 use Rattle.layouts.specs.declared.Layout.{Layout}
@@ -114,7 +114,7 @@ module _ (t : Table) (esr iss : ℕ) (f : Refusal) (is : f ≡ failureFor t iss)
 -- "acceptance of a class equals a filled place": the class table's number is counted as the class is looked up, among layouts numbered from n.
 data LookedUp (esr n : ℕ) (ss : List Served) : Type 0 where
   missing : numberIn n ss (classOf esr) ≡ empty → classAnswer ss esr ≡ refused (carrying InvalidEc (classOf esr)) → LookedUp esr n ss
-  found : (k : ℕ) → k < length ss → numberIn n ss (classOf esr) ≡ n + k → classAnswer ss esr ≡ tableAnswer (getD (tablesOf ss) k undivided) esr (issOf esr)
+  found : (k : ℕ) → k < length ss → numberIn n ss (classOf esr) ≡ n + k → classAnswer ss esr ≡ tableAnswer (getD (tablesOf ss) k msr) esr (issOf esr)
       → LookedUp esr n ss
 
 looked-up : (esr n : ℕ) (ss : List Served) → LookedUp esr n ss
@@ -182,7 +182,7 @@ module _ (esr number : ℕ) (n : number ≡ layoutNumber (classOf esr)) where
     where
       by : LookedUp esr 0 layouts → tableAnswer (tableOf number) esr (issOf esr) ≡ classAnswer layouts esr
       by (missing p q) = absurd (h (n ∙ p))
-      by (found k l p q) = ap (λ (i : ℕ). tableAnswer (getD (tablesOf layouts) i undivided) esr (issOf esr)) (n ∙ p ∙ zero-add k) ∙ sym q
+      by (found k l p q) = ap (λ (i : ℕ). tableAnswer (getD (tablesOf layouts) i msr) esr (issOf esr)) (n ∙ p ∙ zero-add k) ∙ sym q
 
 -- bits 37 .. 64
 pub top-fails : (esr : ℕ) → meets esr reserved ≡ false → refused (refusalOf esr reserved) ≡ answerOf esr

@@ -54,7 +54,7 @@ const CLASS: [u8; 64] = [
     numbers::HVC,
     numbers::HVC,
     // 0x18
-    numbers::UNDIVIDED,
+    numbers::MSR,
     numbers::RES0,
     EMPTY,
     EMPTY,

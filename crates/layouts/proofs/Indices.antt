@@ -8,10 +8,14 @@ use native.Mathlib.Omega.{arith}
 use lib.Dec.{T}
 use lib.ListN.{length, getD, take, replicate, length-append, length-replicate, List·getD-append}
 use lib.Seq.{take-append-seam}
+use Rattle.texts.specs.Names.{names}
+use Rattle.texts.specs.Rules.{rules}
+use Rattle.texts.specs.Pool.{code, indexIn, describes, onList, ruleAt}
+use Rattle.records.specs.Kinds.{kindOf}
 use Rattle.records.specs.declared.Row.{Row}
 use Rattle.tables.specs.Shape.{Table}
 use Rattle.tables.specs.Applying.{isCheckAt, checkAt, inOrder, rowsFor, checksFor}
-use Rattle.tables.specs.Tables.{Served, layouts, undivided}
+use Rattle.tables.specs.Tables.{Served, layouts, msr}
 use Rattle.tables.proofs.Sound.{Sound, soundTable, sound, sound-table}
 use Rattle.layouts.specs.Layouts.{indexOf, indicesOf, layoutRoom, pad, layoutFor}
 use Rattle.layouts.specs.Layouts.{tablesOf, tableOf}
@@ -82,12 +86,12 @@ padded rows more (k ∷ ks) b = ap₂ (λ (x : Row) (xs : List Row). x ∷ xs) (
 
 -- The table of a number is sound.
 
-undivided-sound : T (soundTable undivided)
-unfolding undivided
-undivided-sound = tt
+msr-sound : T (soundTable msr)
+unfolding msr names rules code indexIn describes onList ruleAt kindOf
+msr-sound = tt
 
-listed-sound : (ss : List Served) (n : ℕ) → ((s : Served) → List·Memᴰ s ss → T (soundTable (s .table))) → T (soundTable (getD (tablesOf ss) n undivided))
-listed-sound [] n h = undivided-sound
+listed-sound : (ss : List Served) (n : ℕ) → ((s : Served) → List·Memᴰ s ss → T (soundTable (s .table))) → T (soundTable (getD (tablesOf ss) n msr))
+listed-sound [] n h = msr-sound
 listed-sound (s ∷ ss) zero h = h s (List·Memᴰ·head refl)
 listed-sound (s ∷ ss) (suc n) h = listed-sound ss n (λ x m. h x (List·Memᴰ·tail m))
 

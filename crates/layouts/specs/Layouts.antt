@@ -9,7 +9,7 @@ use Rattle.records.specs.Kinds.{Free, kindNumber}
 use Rattle.records.specs.declared.Row.{Row}
 use Rattle.tables.specs.Shape.{Table}
 use Rattle.tables.specs.Applying.{isCheckAt, rowsFor}
-use Rattle.tables.specs.Tables.{Served, layouts, undivided}
+use Rattle.tables.specs.Tables.{Served, layouts, msr}
 use Rattle.layouts.specs.declared.Layout.{Layout}
 
 -- the index of the row that starts at s and asks something, counted from n; none where there is no such row
@@ -44,13 +44,13 @@ layoutFor t v = laid (rowsFor t v) (indicesOf (rowsFor t v) (t .order)) (t .issR
 
 -- The layouts by number, as the code names them: a layout's number is its index in the list of tables.
 
--- the table of a number; past the last, the undivided one
+-- the table of a number; past the last, the last one again
 abbrev pub tablesOf : List Served → List Table
 tablesOf [] = []
 tablesOf (s ∷ ss) = s .table ∷ tablesOf ss
 
 unfoldable pub tableOf : ℕ → Table
-tableOf n = getD (tablesOf layouts) n undivided
+tableOf n = getD (tablesOf layouts) n msr
 
 -- the number of the layout that serves a class, counted from n, and a mark where none does
 abbrev pub empty : ℕ

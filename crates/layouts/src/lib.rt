@@ -49,7 +49,7 @@ fn decode_iss_res0(iss: u64) -> Layout
     }
 }
 
-// The layout of a number, for this ISS; a number of no layout has the undivided one.
+// The layout of a number, for this ISS; a number of no layout has the last one.
 pub fn layout_of(number: u8, iss: u64) -> Layout
     ensures { λ r. ⌜ LayoutOf (number, iss) r ⌝ }
 {

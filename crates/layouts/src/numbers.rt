@@ -35,4 +35,4 @@ pub const DATA_ABORT: u8 = 16;
 
 pub const SERROR: u8 = 17;
 
-pub const UNDIVIDED: u8 = 18;
+pub const MSR: u8 = 18;

@@ -10,17 +10,19 @@ use lib.Dec.{T, eqb, leb, leb→le}
 use lib.ListN.{length, replicate, length-append}
 use lib.Seq.{take-append-seam}
 use Rattle.promise.proofs.Tests.{every, every-mem, is-true}
+use Rattle.registers.specs.Registers.{registers}
 use Rattle.texts.specs.Names.{names}
 use Rattle.texts.specs.Rules.{Text, rules}
 use Rattle.texts.specs.Pool.{bytes, bytesAt, code, indexIn, texts, textAt, textIn, onList, ruleAt, descriptionOf, describes, firstOf, textCode}
 use Rattle.texts.proofs.Laws.{text-described, text-short}
 use Rattle.refusals.specs.Refusals.{passed}
+use Rattle.records.specs.Subjects.{subject}
 use Rattle.records.specs.Rows.{recordOf}
 use Rattle.records.specs.Sets.{setRoom, noRecord, recordsOf, listOf}
 use Rattle.records.specs.declared.Record.{Record}
 use Rattle.records.specs.declared.Row.{Row}
 use Rattle.tables.specs.Applying.{rowsFor}
-use Rattle.tables.specs.Tables.{topRows, Served, layouts, res0, wf, mcr, mcrr, ldc, sve, ld64b, bti, pauth, hvc, brk, fp, breakpoint, softwareStep, watchpoint, instructionAbort, dataAbort, serror, undivided}
+use Rattle.tables.specs.Tables.{topRows, Served, layouts, res0, wf, mcr, mcrr, ldc, sve, ld64b, bti, pauth, hvc, brk, fp, breakpoint, softwareStep, watchpoint, instructionAbort, dataAbort, serror, msr}
 use Rattle.tables.proofs.Sound.{always, always-at}
 use Rattle.esr.specs.Decode.{refused, accepted, recordsFor, answerOf}
 use Rattle.esr.specs.declared.Answer.{Answer}
@@ -89,7 +91,7 @@ row-most : (index v : ℕ) (row : Row) → length (recordLines bytesAt index (re
 unfolding rowMost valueMost recordOf
 row-most index v row =
     let r : Record = recordOf v row in
-    omega (arith, length-lines bytesAt index r, length-line bytesAt r, field-most (r .width) (r .value), text-most index (row .rule) (r .value))
+    omega (arith, length-lines bytesAt index r, length-line bytesAt r, field-most (r .width) (r .value), text-most index (row .rule) (subject (row .rule) (r .value)))
 
 -- of rows: the first ones of the value, the others of its ISS
 rows-most : (index esr iss : ℕ) (top own : List Row)
@@ -109,7 +111,7 @@ shortServed i s = always (shortRows (s .table .issRule)) (s .table)
 
 -- the computed test
 all-short : T (every shortServed 0 layouts)
-unfolding layouts res0 wf mcr mcrr ldc sve ld64b bti pauth hvc brk fp breakpoint softwareStep watchpoint instructionAbort dataAbort serror undivided topRows names rules code indexIn ruleAt texts textAt bytesAt bytes indentAt rowsMost rowMost valueMost textMost
+unfolding layouts res0 wf mcr mcrr ldc sve ld64b bti pauth hvc brk fp breakpoint softwareStep watchpoint instructionAbort dataAbort serror msr topRows names rules registers code indexIn ruleAt texts textAt bytesAt bytes indentAt rowsMost rowMost valueMost textMost
 all-short = tt
 
 abbrev Short : Answer → Type 0

@@ -67,7 +67,7 @@ codes-le rs zero = omega arith
 codes-le [] (suc n) = omega arith
 codes-le (r ∷ rs) (suc n) = omega (arith, codes-le rs n)
 
-pub first-le : (rule : ℕ) → firstOf rule ≤ 531
+pub first-le : (rule : ℕ) → firstOf rule ≤ 597
 unfolding firstOf codesOf rules
 first-le rule = omega (arith, codes-le rules rule)
 
@@ -93,7 +93,7 @@ unfolding bitsOf
 no-bits f h k zero = refl
 no-bits f h k (suc n) = ap₂ (λ (x : ℕ) (b : Bool). x * 2 + bit b) (no-bits f h (suc k) n) (h k)
 
-pub no-rule : (n : ℕ) → 48 ≤ n → (0, 531) ≡ numbersOf n
+pub no-rule : (n : ℕ) → 50 ≤ n → (0, 597) ≡ numbersOf n
 unfolding numbersOf describes onList ruleAt firstOf codesOf rules
 no-rule n h =
     let none : ruleAt n ≡ plain = List·getD-eq-default rules plain h in

@@ -57,6 +57,8 @@ fn in_numbers(rule: u8) -> Descriptions
         rules::MESSAGE => Descriptions(0xFE, pool::MESSAGE_FIRST),
         rules::MESSAGE_END => Descriptions(0x82, pool::MESSAGE_END_FIRST),
         rules::OWN_WORDS => Descriptions(0x91_C700, pool::OWN_WORDS_FIRST),
+        rules::MSR_READ => Descriptions(0x3, pool::MSR_READ_FIRST),
+        rules::SYSTEM_REGISTER => Descriptions(0xFFFF_FFFF_FFFF_FFFF, pool::SYSTEM_REGISTER_FIRST),
         _ => Descriptions(0, texts::COUNT as u16),
     }
 }

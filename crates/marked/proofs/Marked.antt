@@ -7,6 +7,7 @@ use lib.ListN.{length}
 use borrow.Author.Tests.{le-leb}
 use lib.Text.{eqt, eqt→eq}
 use Rattle.promise.proofs.Tests.{both-left, both-right}
+use Rattle.registers.specs.Registers.{registers, placeIn}
 use Rattle.texts.specs.Names.{names}
 use Rattle.texts.specs.Pool.{textIn, onList, ruleAt, describes, byValue, described, codesOf, texts, textAt, bytesAt, indexIn, code, firstOf, textCode, bytes}
 use Rattle.texts.specs.Rules.{rules}
@@ -16,10 +17,11 @@ use Rattle.refusals.proofs.Theorems.{one-reason, by-parts}
 use Rattle.records.specs.Bits.{fieldOf}
 use Rattle.records.specs.Kinds.{kindOf}
 use Rattle.records.specs.Rows.{recordOf, meets, refusalOf}
+use Rattle.records.specs.Subjects.{keyOf, subject}
 use Rattle.records.specs.Sets.{recordsOf, listOf}
 use Rattle.records.specs.declared.Record.{Record}
 use Rattle.tables.specs.Applying.{passes, rowsFor, checksFor}
-use Rattle.tables.specs.Tables.{topRows, layouts, res0, wf, mcr, mcrr, ldc, sve, ld64b, bti, pauth, hvc, brk, fp, breakpoint, softwareStep, watchpoint, instructionAbort, dataAbort, serror, undivided}
+use Rattle.tables.specs.Tables.{topRows, layouts, res0, wf, mcr, mcrr, ldc, sve, ld64b, bti, pauth, hvc, brk, fp, breakpoint, softwareStep, watchpoint, instructionAbort, dataAbort, serror, msr}
 use Rattle.esr.specs.Decode.{firstFailure, refused, accepted as acceptedAnswer, failureFor, recordsFor, tableAnswer, classAnswer, answerOf}
 use Rattle.esr.specs.declared.Answer.{Answer}
 use Rattle.listing.specs.Requested.{listingOf}
@@ -64,7 +66,7 @@ allMet [] = true
 allMet (c ∷ cs) = met (c .expected) (answerOf (c .esr)) && allMet cs
 
 computed : T (allMet cases)
-unfolding cases answerOf classAnswer tableAnswer failureFor recordsFor acceptedAnswer refused topRows firstFailure layouts res0 wf mcr mcrr ldc sve ld64b bti pauth hvc brk fp breakpoint softwareStep watchpoint instructionAbort dataAbort serror undivided passes rowsFor checksFor fieldOf recordOf meets refusalOf kindOf recordsOf textIn onList ruleAt describes byValue described codesOf texts textAt indexIn code firstOf textCode names rules
+unfolding cases answerOf classAnswer tableAnswer failureFor recordsFor acceptedAnswer refused topRows firstFailure layouts res0 wf mcr mcrr ldc sve ld64b bti pauth hvc brk fp breakpoint softwareStep watchpoint instructionAbort dataAbort serror msr passes rowsFor checksFor fieldOf recordOf subject keyOf placeIn meets refusalOf kindOf recordsOf textIn onList ruleAt describes byValue described codesOf texts textAt indexIn code firstOf textCode names rules registers
 computed = tt
 
 -- What it shows.
@@ -127,7 +129,7 @@ unfolding bytes wholeOf isStop beforeStop restOf areStops numberOf numberIn read
 read = refl
 
 in-full : listingOf 0x56000001 ≡ inFull (ended listed)
-unfolding listed ended listingOf eachFrom recordLines textLine indentAt lineText fieldText valueText binaryText binarySuffix digitsOf digitChar bytesAt bytes answerOf classAnswer tableAnswer failureFor recordsFor acceptedAnswer refused topRows firstFailure layouts res0 wf mcr mcrr ldc sve ld64b bti pauth hvc brk fp breakpoint softwareStep watchpoint instructionAbort dataAbort serror undivided passes rowsFor checksFor fieldOf recordOf meets refusalOf kindOf recordsOf textIn onList ruleAt describes byValue described codesOf texts textAt indexIn code firstOf textCode names rules
+unfolding listed ended listingOf eachFrom recordLines textLine indentAt lineText fieldText valueText binaryText binarySuffix digitsOf digitChar bytesAt bytes answerOf classAnswer tableAnswer failureFor recordsFor acceptedAnswer refused topRows firstFailure layouts res0 wf mcr mcrr ldc sve ld64b bti pauth hvc brk fp breakpoint softwareStep watchpoint instructionAbort dataAbort serror msr passes rowsFor checksFor fieldOf recordOf subject keyOf placeIn meets refusalOf kindOf recordsOf textIn onList ruleAt describes byValue described codesOf texts textAt indexIn code firstOf textCode names rules registers
 in-full = refl
 
 listing-holds : ListingHolds

@@ -1,4 +1,4 @@
--- 01, "Marked cases, proved together as one table", and the cases of #102: what is asked of the answer to each value. Names and texts are strings; refusal
+-- 01, "Marked cases, proved together as one table", and the cases of #102 and #108: what is asked of the answer to each value. Names and texts are strings; refusal
 -- 1 names its bits (#105).
 use Prim.Native.Nat.{ℕ, _≤_}
 use Prim.Native.String.{String}
@@ -63,6 +63,9 @@ cases =
     0xC2000022 gives accepted (withText "IFSC" "Debug exception" ∷ []) ∷
     0xC200002A gives refusal (carrying InvalidFsc 0x2A) ∷
     0xBC000012 gives refusal (carrying InvalidFsc 0x12) ∷
+    -- #108: MRS x0, SCTLR_EL1, an instruction of 32 bits; and RES0 22..25
+    0x62300401 gives accepted (withText "ISS" "SCTLR_EL1" ∷ ofValue "Op0" 3 ∷ ofValue "CRn" 1 ∷ withText "Direction" "Read" ∷ []) ∷
+    0x62400000 gives refusal (reservedBits 22 3 1) ∷
     []
 
 -- what a fact says of a record

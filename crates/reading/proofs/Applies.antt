@@ -18,7 +18,7 @@ use Rattle.records.specs.Rows.{rowKind}
 use Rattle.records.specs.declared.Row.{Row}
 use Rattle.tables.specs.Shape.{Test, Condition, Line}
 use Rattle.tables.specs.Applying.{passes, met, keep}
-use Rattle.tables.specs.Tables.{Served, layouts, res0, wf, mcr, mcrr, ldc, sve, ld64b, bti, pauth, hvc, brk, fp, breakpoint, softwareStep, watchpoint, instructionAbort, dataAbort, serror, undivided}
+use Rattle.tables.specs.Tables.{Served, layouts, res0, wf, mcr, mcrr, ldc, sve, ld64b, bti, pauth, hvc, brk, fp, breakpoint, softwareStep, watchpoint, instructionAbort, dataAbort, serror, msr}
 use Rattle.reading.specs.Refusing.{refusing}
 use Rattle.reading.specs.Reading.{Holding, Fulfils, Meets, Applying, none, there, away, Listed}
 use Rattle.reading.proofs.HasBits.{bits-is, bits-of, inner}
@@ -81,7 +81,7 @@ fittedTable i s = every fitted 0 (s .table .lines)
 
 -- the computed test
 all-fitted : T (every fittedTable 0 layouts)
-unfolding layouts res0 wf mcr mcrr ldc sve ld64b bti pauth hvc brk fp breakpoint softwareStep watchpoint instructionAbort dataAbort serror undivided kindOf
+unfolding layouts res0 wf mcr mcrr ldc sve ld64b bti pauth hvc brk fp breakpoint softwareStep watchpoint instructionAbort dataAbort serror msr kindOf
 all-fitted = tt
 
 pub fitted-lines : {s : Served} → List·Memᴰ s layouts → T (every fitted 0 (s .table .lines))

@@ -24,7 +24,7 @@ use Rattle.records.specs.declared.Row.{Row}
 use Rattle.records.proofs.ByMark.{not-res0}
 use Rattle.tables.specs.Shape.{Test, Condition, Line, Table}
 use Rattle.tables.specs.Applying.{isCheck}
-use Rattle.tables.specs.Tables.{reserved, class, Served, layouts, res0, wf, mcr, mcrr, ldc, sve, ld64b, bti, pauth, hvc, brk, fp, breakpoint, softwareStep, watchpoint, instructionAbort, dataAbort, serror, undivided}
+use Rattle.tables.specs.Tables.{reserved, class, Served, layouts, res0, wf, mcr, mcrr, ldc, sve, ld64b, bti, pauth, hvc, brk, fp, breakpoint, softwareStep, watchpoint, instructionAbort, dataAbort, serror, msr}
 use Rattle.esr.specs.Promises.{Decoded}
 use Rattle.esr.specs.declared.Answer.{Answer}
 use Rattle.reading.specs.Reading.{HasBits, Holding, Fulfils, Meets, Applying, none, there, away, Listed, Allowed, Classed}
@@ -129,7 +129,7 @@ testedTable i s = every (tested s) 0 (s .table .lines)
 
 -- the computed test
 all-tested : T (every testedTable 0 layouts)
-unfolding layouts res0 wf mcr mcrr ldc sve ld64b bti pauth hvc brk fp breakpoint softwareStep watchpoint instructionAbort dataAbort serror undivided rules describes onList ruleAt kindOf
+unfolding layouts res0 wf mcr mcrr ldc sve ld64b bti pauth hvc brk fp breakpoint softwareStep watchpoint instructionAbort dataAbort serror msr rules describes onList ruleAt kindOf
 all-tested = tt
 
 -- What the test shows of a line whose row is not met.

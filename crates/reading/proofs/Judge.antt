@@ -9,12 +9,13 @@ use lib.Dec.{T, eqb, leb, eqb→eq, leb→le}
 use borrow.Author.Tests.{eq-eqb}
 use Rattle.promise.specs.Member.{member}
 use Rattle.promise.proofs.Tests.{both-left, true-is, is-true}
-use Rattle.texts.specs.Pool.{describes, textCode, textAt, descriptionOf}
+use Rattle.texts.specs.Pool.{describes, firstOf, textCode, textAt, descriptionOf}
 use Rattle.texts.proofs.Laws.{text-described}
 use Rattle.refusals.specs.Refusals.{refusalNumber, carrying, noRefusal}
 use Rattle.refusals.proofs.Theorems.{by-parts}
 use Rattle.refusals.specs.declared.Refusal.{Refusal}
 use Rattle.records.specs.Bits.{fieldOf}
+use Rattle.records.specs.Subjects.{subject, textOf}
 use Rattle.records.specs.Rows.{valueIn, recordOf, meets, refusalOf, rowKind}
 use Rattle.records.specs.Kinds.{Kind, Free, Unchecked, Checked, Coded, markOf, allows, reasonOf, named}
 use Rattle.records.specs.declared.Mark.{Mark}
@@ -22,8 +23,9 @@ use Rattle.records.specs.declared.Record.{Record}
 use Rattle.records.specs.declared.Row.{Row}
 use Rattle.esr.specs.Decode.{firstFailure}
 use Rattle.reading.specs.Refusing.{refusing, Met, Unmet, notZero, notListed, First, here, later}
-use Rattle.reading.specs.Reading.{Allowed, Holds, HoldAll, none, more}
+use Rattle.reading.specs.Reading.{Listed, Allowed, Holds, HoldAll, none, more}
 use Rattle.reading.proofs.HasBits.{bits-is, bits-of, inner}
+use Rattle.reading.proofs.Subjects.{speaks-is, subject-speaks}
 use Rattle.reading.proofs.Applies.{numbered, fitting, false-is, listed-describes, describes-listed}
 
 -- What a kind allows, and its computed test.
@@ -142,7 +144,7 @@ eta : (x : Record) → x ≡ made (x .value) (x .name) (x .text) (x .long) (x .s
 unfolding made
 eta x = refl
 
-eta-of : (v : ℕ) (row : Row) → made (valueIn v row) (row .name) (textCode (row .rule) (valueIn v row)) (row .long) (row .start) (row .width) (markOf (rowKind row)) ≡ recordOf v row
+eta-of : (v : ℕ) (row : Row) → made (valueIn v row) (row .name) (textOf (row .rule) (valueIn v row)) (row .long) (row .start) (row .width) (markOf (rowKind row)) ≡ recordOf v row
 unfolding made recordOf
 eta-of v row = refl
 
@@ -151,23 +153,28 @@ pub holds-is : (v : ℕ) (row : Row) (x : Record) → Holds v row x → x ≡ re
 unfolding textCode
 holds-is v row x h =
     let e : x .value ≡ valueIn v row = bits-is (h .has) in
-    let t : x .text ≡ textCode (row .rule) (valueIn v row) = by (describes (row .rule) (x .value)) refl ∙ ap (textCode (row .rule)) e in
+    let t : x .text ≡ textOf (row .rule) (valueIn v row) = by (describes (row .rule) n) refl ∙ ap (textOf (row .rule)) e in
     cc (eta x, eta-of v row, h .start, h .width, h .name, h .long, h .mark)
   where
-    by : (b : Bool) → describes (row .rule) (x .value) ≡ b → x .text ≡ textCode (row .rule) (x .value)
-    by true e = h .described (describes-listed (row .rule) (x .value) (is-true e)) ∙ simp e
-    by false e = h .undescribed (λ l. subst T e (listed-describes l)) ∙ simp e
+    n : ℕ
+    n = subject (row .rule) (x .value)
 
--- The text of a record that holds its row is what the row's rule says of its value.
-pub held-text : (v : ℕ) (row : Row) (x : Record) → Holds v row x → textAt (x .text) ≡ descriptionOf (row .rule) (x .value)
+    by : (b : Bool) → describes (row .rule) n ≡ b → x .text ≡ textCode (row .rule) n
+    by true e = h .described n (subject-speaks (row .rule) (x .value) (is-true e)) (describes-listed (row .rule) n (is-true e)) ∙ simp e
+    by false e = h .undescribed (λ k s l. subst T e (listed-describes (subst (Listed (row .rule)) (speaks-is s) l))) ∙ simp e
+
+-- The text of a record that holds its row is what the row's rule says of it.
+pub held-text : (v : ℕ) (row : Row) (x : Record) → Holds v row x → textAt (x .text) ≡ descriptionOf (row .rule) (subject (row .rule) (x .value))
 unfolding recordOf
 held-text v row x h =
-    subst (λ (y : Record). textAt (y .text) ≡ descriptionOf (row .rule) (y .value)) (sym (holds-is v row x h)) (text-described (row .rule) (valueIn v row))
+    subst (λ (y : Record). textAt (y .text) ≡ descriptionOf (row .rule) (subject (row .rule) (y .value))) (sym (holds-is v row x h))
+    (text-described (row .rule) (subject (row .rule) (valueIn v row)))
 
 -- The record of a row that is met holds it.
 holds-of : (v : ℕ) (row : Row) → T (meets v row) → Holds v row (recordOf v row)
 unfolding recordOf textCode
 holds-of v row t =
+    let n : ℕ = subject (row .rule) (valueIn v row) in
     record {
       start = refl;
       width = refl;
@@ -175,8 +182,10 @@ holds-of v row t =
       long = refl;
       mark = refl;
       has = bits-of v (row .start) (row .width);
-      described = λ l. simp (true-is (describes (row .rule) (valueIn v row)) (listed-describes l));
-      undescribed = λ n. simp (false-is (describes (row .rule) (valueIn v row)) (λ t. n (describes-listed (row .rule) (valueIn v row) t)));
+      described = λ k s l.
+          ap (λ (b : Bool). cond b (firstOf (row .rule) + n) 0) (true-is (describes (row .rule) n) (listed-describes (subst (Listed (row .rule)) (speaks-is s) l)))
+          ∙ ap (λ (m : ℕ). firstOf (row .rule) + m) (sym (speaks-is s));
+      undescribed = λ none. simp (false-is (describes (row .rule) n) (λ u. none n (subject-speaks (row .rule) (valueIn v row) u) (describes-listed (row .rule) n u)));
       allowed = meets-allowed v row t;
     }
 
@@ -209,5 +218,5 @@ module _ (v : ℕ) where
   unfolding recordOf
   records-iss [] t = refl
   records-iss (r ∷ rs) t =
-      ap₂ (λ (n : ℕ) (ys : List Record). record { value = n; name = r .name; text = textCode (r .rule) n; long = r .long; start = r .start; width = r .width; mark = markOf (rowKind r) } ∷ ys)
+      ap₂ (λ (n : ℕ) (ys : List Record). record { value = n; name = r .name; text = textOf (r .rule) n; long = r .long; start = r .start; width = r .width; mark = markOf (rowKind r) } ∷ ys)
       (in-iss r (t r (List·Memᴰ·head refl))) (records-iss rs (λ x m. t x (List·Memᴰ·tail m)))

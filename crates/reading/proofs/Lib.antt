@@ -1,7 +1,9 @@
 pub mod HasBits
+pub mod Subjects
 pub mod Applies
 pub mod Served
 pub mod Judge
+pub mod Registers
 pub mod Ordered
 pub mod Outcome
 pub mod Reading

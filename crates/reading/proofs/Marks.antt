@@ -26,7 +26,7 @@ use Rattle.records.proofs.Laws.{list-of}
 use Rattle.tables.specs.Shape.{Line}
 use Rattle.tables.specs.Applying.{passes, rowsFor, checksFor}
 use Rattle.tables.proofs.Laws.{sameList, same-list}
-use Rattle.tables.specs.Tables.{topRows, reserved, class, Served, layouts, res0, wf, mcr, mcrr, ldc, sve, ld64b, bti, pauth, hvc, brk, fp, breakpoint, softwareStep, watchpoint, instructionAbort, dataAbort, serror, undivided}
+use Rattle.tables.specs.Tables.{topRows, reserved, class, Served, layouts, res0, wf, mcr, mcrr, ldc, sve, ld64b, bti, pauth, hvc, brk, fp, breakpoint, softwareStep, watchpoint, instructionAbort, dataAbort, serror, msr}
 use Rattle.esr.specs.Decode.{firstFailure, refused, accepted, failureFor, recordsFor, tableAnswer, classOf, classAnswer, answerOf}
 use Rattle.esr.specs.Promises.{Decoded}
 use Rattle.esr.specs.declared.Answer.{Answer}
@@ -159,7 +159,7 @@ shownTable i s = every (shown s) 0 (s .table .lines)
 
 -- the computed test
 all-shown : T (every shownTable 0 layouts)
-unfolding layouts res0 wf mcr mcrr ldc sve ld64b bti pauth hvc brk fp breakpoint softwareStep watchpoint instructionAbort dataAbort serror undivided rules code indexIn names describes onList ruleAt kindOf fieldOf meets passes rowsFor checksFor
+unfolding layouts res0 wf mcr mcrr ldc sve ld64b bti pauth hvc brk fp breakpoint softwareStep watchpoint instructionAbort dataAbort serror msr rules code indexIn names describes onList ruleAt kindOf fieldOf meets passes rowsFor checksFor
 all-shown = tt
 
 line-refuses : {s : Served} (l : Line) → List·Memᴰ s layouts → List·Memᴰ l (s .table .lines) → T (isCoded (rowKind (l .row))) → CanRefuse (l .row) ofCoded

@@ -1,11 +1,12 @@
 -- What a reading of a value is, said of the value's bits and of the lines of 01's tables, and of nothing that decodes: "Top records in
 -- order: RES0 37..64, ISS2 32..37 (unchecked), EC 26..32 with the class text, IL 25, ISS 0..25, then ISS's own."
-use Prim.Native.Nat.{ℕ, _+_, _*_, _^_, _<_}
+use Prim.Native.Nat.{ℕ, suc, _+_, _*_, _^_, _<_}
 use Prim.Native.String.{String}
 use mathlib.Core.Bool.{Bool, true, false}
 use mathlib.Core.List.{List, [], _∷_, _++_, List·Memᴰ}
 use mathlib.Core.Path.{_≡_}
-use Rattle.texts.specs.Rules.{_means_}
+use Rattle.registers.specs.Registers.{Register, registers}
+use Rattle.texts.specs.Rules.{_means_, systemRegister}
 use Rattle.texts.specs.Pool.{ruleAt, firstOf}
 use Rattle.records.specs.Kinds.{Kind, Free, Unchecked, Checked, Coded, markOf}
 use Rattle.records.specs.declared.Record.{Record}
@@ -52,6 +53,30 @@ pub record Listed (rule value : ℕ) : Type 0 where
   pub text : String
   pub among : List·Memᴰ (value means text) (ruleAt rule .texts)
 
+-- #108: the system register that an ISS names, by "a 16-bit key, Op0 on top, then Op1, CRn, CRm, Op2"
+pub record HasKey (iss key : ℕ) : Type 0 where
+  pub op0 : ℕ
+  pub op1 : ℕ
+  pub crn : ℕ
+  pub crm : ℕ
+  pub op2 : ℕ
+  pub hasOp0 : HasBits iss 20 2 op0
+  pub hasOp2 : HasBits iss 17 3 op2
+  pub hasOp1 : HasBits iss 14 3 op1
+  pub hasCRn : HasBits iss 10 4 crn
+  pub hasCRm : HasBits iss 1 4 crm
+  pub whole : key ≡ op0 * 2 ^ 14 + op1 * 2 ^ 11 + crn * 2 ^ 7 + crm * 2 ^ 3 + op2
+
+-- a key is that of the register at this place of a table
+pub data Stands (key : ℕ) : ℕ → List Register → Type 0 where
+  first : {r : Register} {rs : List Register} → r .key ≡ key → Stands key 0 (r ∷ rs)
+  next : {n : ℕ} {r : Register} {rs : List Register} → Stands key n rs → Stands key (suc n) (r ∷ rs)
+
+-- the number by which a rule speaks of a field: the field's value; under the rule of system registers, the place of its key, if the key is in the table
+pub data SpeaksBy (rule value n : ℕ) : Type 0 where
+  itself : (rule ≡ systemRegister .number → ⊥) → n ≡ value → SpeaksBy rule value n
+  register : {key : ℕ} → rule ≡ systemRegister .number → HasKey value key → Stands key n registers → SpeaksBy rule value n
+
 -- what a kind asks of its field's value: a coded field is on its list, "a checked reserved field" is 0; of others nothing
 abbrev pub Allowed : Kind → ℕ → ℕ → Type 0
 Allowed Free rule value = Unit {0}
@@ -67,8 +92,8 @@ pub record Holds (v : ℕ) (row : Row) (x : Record) : Type 0 where
   pub long : x .long ≡ row .long
   pub mark : x .mark ≡ markOf (rowKind row)
   pub has : HasBits v (row .start) (row .width) (x .value)
-  pub described : Listed (row .rule) (x .value) → x .text ≡ firstOf (row .rule) + x .value
-  pub undescribed : (Listed (row .rule) (x .value) → ⊥) → x .text ≡ 0
+  pub described : (n : ℕ) → SpeaksBy (row .rule) (x .value) n → Listed (row .rule) n → x .text ≡ firstOf (row .rule) + n
+  pub undescribed : ((n : ℕ) → SpeaksBy (row .rule) (x .value) n → Listed (row .rule) n → ⊥) → x .text ≡ 0
   pub allowed : Allowed (rowKind row) (row .rule) (x .value)
 
 -- a record for each row, in order

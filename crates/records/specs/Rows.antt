@@ -1,10 +1,10 @@
 -- What a row says of a value: the record that it gives, whether what it asks is met, and what it refuses.
 use Prim.Native.Nat.{ℕ}
 use mathlib.Core.Bool.{Bool}
-use Rattle.texts.specs.Pool.{textCode}
 use Rattle.refusals.specs.declared.Refusal.{Refusal}
 use Rattle.records.specs.Bits.{fieldOf}
 use Rattle.records.specs.Kinds.{Kind, kindOf, markOf, allows, reasonOf, named}
+use Rattle.records.specs.Subjects.{textOf}
 use Rattle.records.specs.declared.Record.{Record}
 use Rattle.records.specs.declared.Row.{Row}
 
@@ -20,7 +20,7 @@ recordOf v r =
     record {
       value = valueIn v r;
       name = r .name;
-      text = textCode (r .rule) (valueIn v r);
+      text = textOf (r .rule) (valueIn v r);
       long = r .long;
       start = r .start;
       width = r .width;

@@ -2,9 +2,12 @@
 ghost use Rattle.records.specs.Promises.{AsBit, At, Emptied, Field, Got, Meets, Number, Refused};
 ghost use Rattle.records.specs.Kinds.{kindOf, markOf, reasonAt};
 ghost use Rattle.records.specs.Sets.{noRecord};
+ghost use Rattle.records.specs.Subjects.{keyOf};
+ghost use Rattle.records.specs.Subjects as subjects;
 ghost use mathlib.Core.Path.{_≡_};
 use refusals::Reason;
 use refusals::Refusal;
+use texts::rules;
 
 pub mod kinds;
 
@@ -76,6 +79,28 @@ fn reason_at(index: u8) -> Reason
     }
 }
 
+// The key of the system register that an ISS of MSR and MRS names: Op0 on top, then Op1, CRn, CRm, Op2.
+fn key(iss: u64) -> u16
+    ensures { λ r. ⌜ r ≡ keyOf iss ⌝ }
+{
+    let op0 = field(iss, 20, 2);
+    let op1 = field(iss, 14, 3);
+    let crn = field(iss, 10, 4);
+    let crm = field(iss, 1, 4);
+    let op2 = field(iss, 17, 3);
+    (op0 * 0x4000 + op1 * 0x800 + crn * 0x80 + crm * 0x8 + op2) as u16
+}
+
+// The number by which a rule speaks of a field: its value, or the place of its register.
+fn subject(rule: u8, value: u64) -> u64
+    ensures { λ r. ⌜ r ≡ subjects.subject rule value ⌝ }
+{
+    if rule != rules::SYSTEM_REGISTER {
+        return value;
+    }
+    registers::place(key(value)) as u64
+}
+
 // A row of a layout; a kind is one of `kinds`. Six bytes with no gap, so that rows are copied as one block.
 pub struct Row {
     pub start: u8,
@@ -106,7 +131,7 @@ impl Row {
         Record {
             value,
             name: self.name as u16,
-            text: lookup::text_code(self.rule, value),
+            text: lookup::text_code(self.rule, subject(self.rule, value)),
             long: self.long,
             start: self.start,
             width: self.width,

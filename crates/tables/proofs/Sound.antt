@@ -17,7 +17,7 @@ use Rattle.records.specs.Rows.{rowKind}
 use Rattle.records.specs.declared.Row.{Row}
 use Rattle.tables.specs.Shape.{Test, Condition, Line, Table, tests}
 use Rattle.tables.specs.Applying.{passes, keep, rowsFor, isCheck, inOrder}
-use Rattle.tables.specs.Tables.{topRows, Served, layouts, res0, wf, mcr, mcrr, ldc, sve, ld64b, bti, pauth, hvc, brk, fp, breakpoint, softwareStep, watchpoint, instructionAbort, dataAbort, serror, undivided}
+use Rattle.tables.specs.Tables.{topRows, Served, layouts, res0, wf, mcr, mcrr, ldc, sve, ld64b, bti, pauth, hvc, brk, fp, breakpoint, softwareStep, watchpoint, instructionAbort, dataAbort, serror, msr}
 use Rattle.tables.proofs.Laws.{same, given, knowsLines, keep-is}
 
 -- "Each layout is at most 14 rows"
@@ -107,7 +107,7 @@ top-kinds rule = refl
 
 -- the computed test
 all-sound : T (every soundServed 0 layouts && from classSound 0 64)
-unfolding layouts res0 wf mcr mcrr ldc sve ld64b bti pauth hvc brk fp breakpoint softwareStep watchpoint instructionAbort dataAbort serror undivided names rules code indexIn describes onList ruleAt kindOf
+unfolding layouts res0 wf mcr mcrr ldc sve ld64b bti pauth hvc brk fp breakpoint softwareStep watchpoint instructionAbort dataAbort serror msr names rules code indexIn describes onList ruleAt kindOf
 all-sound = tt
 
 pub sound-table : {s : Served} → List·Memᴰ s layouts → T (soundTable (s .table))

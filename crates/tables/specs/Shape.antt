@@ -55,6 +55,11 @@ infix 20 _checking_
 abbrev pub _checking_ : List Line → List ℕ → Table
 ls checking o = record { lines = ls; order = o; issRule = plain .number }
 
+-- a table under which ISS itself has a text
+infix 10 _issBy_
+abbrev pub _issBy_ : Table → Rule → Table
+t issBy r = record { lines = t .lines; order = t .order; issRule = r .number }
+
 -- the conditions of 01: a bit is 1 or 0; the status, bits 0 .. 6, is this, or is external
 abbrev pub bit : ℕ → Test
 bit k = record { start = k; width = 1; among = 1 ∷ [] }

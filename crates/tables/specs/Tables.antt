@@ -1,15 +1,15 @@
--- 01's top rows, and its layouts: rows from high bits to low, and the starts of the rows that ask something in the order of the checks, as
+-- 01's top rows, and its layouts with that of #108: rows from high bits to low, and the starts of the rows that ask something in the order of the checks, as
 -- 01 gives it; where 01 is silent, from high to low. Above each table stands 01's line and the Arm manual's ISS encoding (DDI 0487, ESR_ELx) that it is,
 -- from memory: the manual was not at hand.
 use mathlib.Core.List.{List, [], _∷_}
 use Prim.Native.Nat.{ℕ}
 use Prim.Native.String.{String}
 use Rattle.texts.specs.Pool.{code}
-use Rattle.texts.specs.Rules.{Rule, plain, className, il, issRes0, cv, rv, ti, mcrRead, offsetSign, am, ldcRead, ld64bIss, iOrD, aOrB, tfv, idf, ixf, uff, off, dzf, iof, debugStatus, stepValid, ex, watchWnR, faultStatus, setType, fnv, pfv, isv, sas, sf, ar, wu, fnp, fnpNotValid, wnr, ids, aet, serrorStatus, els, vfv, iesb, wnrv, wnrNotValid}
+use Rattle.texts.specs.Rules.{Rule, plain, className, il, issRes0, cv, rv, ti, mcrRead, offsetSign, am, ldcRead, ld64bIss, iOrD, aOrB, tfv, idf, ixf, uff, off, dzf, iof, debugStatus, stepValid, ex, watchWnR, faultStatus, setType, fnv, pfv, isv, sas, sf, ar, wu, fnp, fnpNotValid, wnr, ids, aet, serrorStatus, els, vfv, iesb, wnrv, wnrNotValid, msrRead, systemRegister}
 use Rattle.records.specs.Kinds.{Kind, Free, Unchecked, Checked, Coded, kindNumber}
 use Rattle.refusals.specs.declared.Reason.the-variants.{InvalidEc, InvalidFsc, InvalidSet, InvalidAet, InvalidAm, InvalidLd64bIss}
 use Rattle.records.specs.declared.Row.{Row}
-use Rattle.tables.specs.Shape.{Table, bits, unnamed, _when_, _unless_, _checking_, bit, _is_, status, external}
+use Rattle.tables.specs.Shape.{Table, bits, unnamed, _when_, _unless_, _checking_, _issBy_, bit, _is_, status, external}
 
 -- "Top records in order: RES0 37..64, ISS2 32..37 (unchecked), EC 26..32 with the class text, IL 25, ISS 0..25, then ISS's own."
 -- the manual: the field descriptions of ESR_ELx. ISS2 is free: nothing is asked of it, which is 01's "(unchecked)", and it is not reserved.
@@ -257,9 +257,19 @@ serror =
     bits  0  6 "DFSC" "Data Fault Status Code" (Coded InvalidFsc) serrorStatus when bit 24 is 0 ∷
     [] checking 0 ∷ 10 ∷ 19 ∷ 14 ∷ 13 ∷ 8 ∷ 6 ∷ []
 
--- 0x18: accepted, ISS undivided and without text. The manual: ISS encoding for an exception from MSR, MRS or System instruction execution; #108 will divide it
-unfoldable pub undivided : Table
-undivided = [] checking []
+-- msr (0x18), as #108 has it: "RES0 22..25 checked, Op0 20..22, Op2 17..20, Op1 14..17, CRn 10..14, Rt 5..10, CRm 1..5, Direction 0"; "the ISS record
+-- gets the name as its text". The manual: ISS encoding for an exception from MSR, MRS or System instruction execution
+unfoldable pub msr : Table
+msr =
+    bits 22 25 "RES0" "Reserved" Checked plain ∷
+    bits 20 22 "Op0" unnamed Free plain ∷
+    bits 17 20 "Op2" unnamed Free plain ∷
+    bits 14 17 "Op1" unnamed Free plain ∷
+    bits 10 14 "CRn" unnamed Free plain ∷
+    bits  5 10 "Rt" unnamed Free plain ∷
+    bits  1  5 "CRm" unnamed Free plain ∷
+    bits  0  1 "Direction" "Direction of the trapped instruction" Free msrRead ∷
+    [] checking 22 ∷ [] issBy systemRegister
 
 -- a table and the classes that it serves
 pub record Served : Type 0 where
@@ -291,5 +301,5 @@ layouts =
     instructionAbort serves (0x20 ∷ 0x21 ∷ []) ∷
     dataAbort serves (0x24 ∷ 0x25 ∷ []) ∷
     serror serves (0x2F ∷ []) ∷
-    undivided serves (0x18 ∷ []) ∷
+    msr serves (0x18 ∷ []) ∷
     []

@@ -14,6 +14,7 @@ use lib.Seq.{getD-append-add, drop-append-seam, take-append-seam, getD-take, get
 use lib.Text.{eqt}
 use borrow.Author.Tests.{ltb-true, ltb-false, eqb-true}
 use Rattle.promise.proofs.Tests.{both-left, both-right, every, every-at}
+use Rattle.registers.specs.Registers.{registers}
 use Rattle.texts.specs.Names.{names}
 use Rattle.texts.specs.Rules.{Text, Rule, plain, rules, faultStatus, className}
 use Rattle.texts.specs.Pool.{textIn, onList, ruleAt, descriptionOf, describes, byValue, described, codesOf, nameRoom, texts, textAt, firstOf, textCode, bytes, bytesAt, flat, startsFrom, pool, starts, lengthIn}
@@ -58,7 +59,7 @@ risesTo end x [] = eqb x end
 risesTo end x (y ∷ ys) = leb x y && risesTo end y ys
 
 rises : T (risesTo (length pool) 0 starts)
-unfolding pool starts startsFrom flat bytes texts described byValue textIn names rules
+unfolding pool starts startsFrom flat bytes texts described byValue textIn names rules registers
 rises = tt
 
 rise-at : (end x : ℕ) (ys : List ℕ) → T (risesTo end x ys) → (k : ℕ) → k < length ys → getD (x ∷ ys) k 0 ≤ getD ys k 0
@@ -106,7 +107,7 @@ abbrev soundRule : ℕ → Rule → Bool
 soundRule n r = eqb (r .number) n && (leb (r .codes) 64 && rising 0 (r .codes) (r .texts))
 
 pub rules-sound : T (every soundRule 0 rules)
-unfolding rules
+unfolding rules registers
 rules-sound = tt
 
 -- 01 and #102: 46 abort statuses; 01: 35 classes
@@ -118,7 +119,7 @@ abbrev short : ℕ → String → Bool
 short n s = leb (length (bytes s)) 255
 
 pub texts-short : T (every short 0 texts)
-unfolding bytes texts described byValue textIn names rules
+unfolding bytes texts described byValue textIn names rules registers
 texts-short = tt
 
 pub text-short : (code : ℕ) → length (bytesAt code) ≤ 255

@@ -1,7 +1,8 @@
 -- The text rules: what each says of a value. House texts and abort statuses are spelled as 01 has them, the others as the Rust.
 use mathlib.Core.List.{List, [], _∷_}
-use Prim.Native.Nat.{ℕ}
+use Prim.Native.Nat.{ℕ, suc}
 use Prim.Native.String.{String}
+use Rattle.registers.specs.Registers.{Register, registers}
 
 -- a value and its text
 pub record Text : Type 0 where
@@ -417,6 +418,18 @@ ownWords =
     23 means "something else stands behind the number" ∷
     [])
 
+-- Direction of MSR and MRS (#108: "text Read (1) or Write (0)")
+abbrev pub msrRead : Rule
+msrRead = bitRule 48 "Read" "Write"
+
+-- ISS of MSR and MRS (#108: "the ISS record gets the name as its text"): the name at each place of the table of registers, which has at most 64
+abbrev pub atPlaces : ℕ → List Register → List Text
+atPlaces n [] = []
+atPlaces n (r ∷ rs) = n means r .name ∷ atPlaces (suc n) rs
+
+abbrev pub systemRegister : Rule
+systemRegister = rule 49 64 (atPlaces 0 registers)
+
 unfoldable pub rules : List Rule
 rules =
     plain ∷ il ∷ cv ∷ rv ∷ mcrRead ∷ offsetSign ∷ ldcRead ∷ iOrD ∷
@@ -425,4 +438,5 @@ rules =
     fnp ∷ fnpNotValid ∷ wnr ∷ ids ∷ els ∷ vfv ∷ iesb ∷ wnrv ∷
     issRes0 ∷ className ∷ ti ∷ am ∷ ld64bIss ∷ debugStatus ∷ faultStatus ∷ setType ∷
     sas ∷ wu ∷ aet ∷ serrorStatus ∷ wnrNotValid ∷ message ∷ messageEnd ∷ ownWords ∷
+    msrRead ∷ systemRegister ∷
     []

@@ -116,3 +116,6 @@ pub const AET: u8 = 111;
 pub const AET_LONG: u8 = 112;
 pub const WNRV: u8 = 114;
 pub const WNRV_LONG: u8 = 115;
+pub const OP0: u8 = 116;
+pub const OP2: u8 = 117;
+pub const OP1: u8 = 118;

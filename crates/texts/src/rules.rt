@@ -47,3 +47,5 @@ pub const WNR_NOT_VALID: u8 = 44;
 pub const MESSAGE: u8 = 45;
 pub const MESSAGE_END: u8 = 46;
 pub const OWN_WORDS: u8 = 47;
+pub const MSR_READ: u8 = 48;
+pub const SYSTEM_REGISTER: u8 = 49;

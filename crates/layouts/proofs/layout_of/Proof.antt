@@ -1,11 +1,11 @@
--- Each arm's routine promises the layout of its table; the number is the table's index in the list. Past the last, the undivided one.
+-- Each arm's routine promises the layout of its table; the number is the table's index in the list. Past the last, the last one again.
 use borrow.Author.Needs.{needs}
 use mathlib.Core.Path.{_≡_, sym, ap, _∙_}
 use Prim.Native.Nat.{ℕ, zero, suc, _+_, _-_, _≤_}
 use native.Mathlib.Omega.{arith}
 use lib.ListN.{getD, List·getD-eq-default}
 use Rattle.promise.proofs.Tests.{others-le}
-use Rattle.tables.specs.Tables.{layouts, undivided}
+use Rattle.tables.specs.Tables.{layouts, msr}
 use Rattle.tables.specs.Shape.{Table}
 use Rattle.layouts.specs.Layouts.{layoutFor}
 use Rattle.layouts.specs.Layouts.{tableOf, tablesOf}
@@ -16,13 +16,13 @@ use Rattle.layouts.proofs.layout_of.Tie as tie
 arm : (k n iss : ℕ) (l : Layout) → n ≡ k → l ≡ layoutFor (tableOf k) iss → l ≡ layoutFor (tableOf n) iss
 arm k n iss l e h = h ∙ ap (λ (m : ℕ). layoutFor (tableOf m) iss) (sym e)
 
-past-last : (n : ℕ) → 18 ≤ n → undivided ≡ tableOf n
+past-last : (n : ℕ) → 18 ≤ n → msr ≡ tableOf n
 unfolding tableOf layouts
 past-last n h = by-more (n - 18) (omega arith)
   where
-    by-more : (k : ℕ) → 18 + k ≡ n → undivided ≡ getD (tablesOf layouts) n undivided
-    by-more zero e = ap (λ m. getD (tablesOf layouts) m undivided) e
-    by-more (suc k) e = let h : 19 ≤ n = omega arith in sym (List·getD-eq-default (tablesOf layouts) undivided h)
+    by-more : (k : ℕ) → 18 + k ≡ n → msr ≡ getD (tablesOf layouts) n msr
+    by-more zero e = ap (λ m. getD (tablesOf layouts) m msr) e
+    by-more (suc k) e = let h : 19 ≤ n = omega arith in sym (List·getD-eq-default (tablesOf layouts) msr h)
 
 other : tie.Need-returns-19
 other c =

@@ -5,6 +5,7 @@ use mathlib.Core.Path.{_≡_, refl, sym, ap, _∙_}
 use Prim.Native.Nat.{ℕ}
 use native.Mathlib.Omega.{arith}
 use Rattle.promise.proofs.Tests.{others-le}
+use Rattle.registers.specs.Registers.{registers}
 use Rattle.texts.specs.Rules.{rules}
 use Rattle.texts.specs.Pool.{onList, ruleAt, describes, codesOf, firstOf}
 use Rattle.lookup.specs.Descriptions.{bitsOf, numbersOf}
@@ -100,7 +101,15 @@ unfolding numbersOf bitsOf describes onList ruleAt firstOf codesOf rules
 returns-18 c = arm 47 (c .before .before .before .args .rule) _ (omega arith) refl
 
 returns-19 : tie.Need-returns-19
-returns-19 c = no-rule (c .before .before .before .args .rule) (others-le 32 (c .before .before .before .args .rule) 16 (c .before .if2 .left) (c .match .rest))
+unfolding numbersOf bitsOf describes onList ruleAt firstOf codesOf rules
+returns-19 c = arm 48 (c .before .before .before .args .rule) _ (omega arith) refl
+
+returns-20 : tie.Need-returns-20
+unfolding numbersOf bitsOf describes onList ruleAt firstOf codesOf rules registers
+returns-20 c = arm 49 (c .before .before .before .args .rule) _ (omega arith) refl
+
+returns-21 : tie.Need-returns-21
+returns-21 c = no-rule (c .before .before .before .args .rule) (others-le 32 (c .before .before .before .args .rule) 18 (c .before .if2 .left) (c .match .rest))
 
 pub in-numbers-spec : {M : Type 1} → statement M
 in-numbers-spec =
@@ -128,4 +137,6 @@ in-numbers-spec =
     returns-16
     returns-17
     returns-18
-    returns-19)
+    returns-19
+    returns-20
+    returns-21)

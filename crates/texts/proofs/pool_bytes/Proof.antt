@@ -1,5 +1,6 @@
 -- The constant is the bytes of the strings: both are computed.
 use mathlib.Core.Path.{refl}
+use Rattle.registers.specs.Registers.{registers}
 use Rattle.texts.specs.Names.{names}
 use Rattle.texts.specs.Pool.{pool, flat, bytes, texts, described, byValue, textIn}
 use Rattle.texts.specs.Rules.{rules}
@@ -7,7 +8,7 @@ use Rattle.texts.proofs.pool_bytes.Statement.{statement}
 use Rattle.texts.proofs.pool_bytes.Tie as tie
 
 returns : tie.Need-returns
-unfolding pool flat bytes texts described byValue textIn names rules
+unfolding pool flat bytes texts described byValue textIn names rules registers
 returns c = refl
 
 pub pool-bytes-spec : {M : Type 1} → statement M

@@ -9,4 +9,4 @@ unfolding recordOf
 returns c = cc
 
 pub get-spec : {M : Type 1} → statement M
-get-spec = tie.close (tie.spec (λ c κs. search needs) (λ c. search needs) (λ c κs. search needs) (λ c κs. search needs) returns)
+get-spec = tie.close (tie.spec (λ c κs. search needs) (λ c. search needs) (λ c κs. search needs) (λ c κs. search needs) (λ c κs. search needs) returns)
