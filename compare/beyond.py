@@ -3,7 +3,9 @@
 
 #105: a refusal by 1 names its field. `esr records` says `refused 1 carried=0xH start=S width=W MESSAGE`, and the message ends with `, bits S..E`.
 #107: a number ends at the first stop, and `esr number` refuses what else stands behind it by 23. The Rust is given the bytes before the stop.
+#108: class 0x18 is divided, and 01's domain of equality is without it. The Rust is not given its values, and our answers to them are held to the second reading alone.
 #109: a record has a mark, the last column of its line in `esr records`."""
+import itertools
 import sys
 from importlib.machinery import SourceFileLoader
 from importlib.util import module_from_spec, spec_from_loader
@@ -29,7 +31,7 @@ def without_bits(line, refusal):
 def marks_of(value):
     """The marks of the records of a value, by the second reading."""
     if expected.refusal_of(value) is None:
-        yield from (part.mark.encode() for *_, part in expected.marked_records(value))
+        yield from (part.mark.encode() for _, _, part, _ in expected.marked_records(value))
 
 
 def without_mark(line, mark):
@@ -38,10 +40,31 @@ def without_mark(line, mark):
     return line[: -len(ended)] + b"\n" if line.endswith(ended) else line[:-1] + b" (a second reading has the mark '%b')\n" % mark
 
 
+def of_the_domain(value):
+    """Whether a value is one of those for which 01 asks for the Rust's answer."""
+    return expected.bits(value, 26, 32) != 0x18
+
+
+def alone(value, block):
+    """What is left of our answer to a value that is not of the domain: nothing, where it is that of the second reading."""
+    wanted = (expected.record_block(value), f"> {value:#x}\n{expected.answered(value)}")
+    return [] if b"".join(block).decode() in wanted else [*block[:-1], block[-1][:-1] + b" (a second reading has another answer)\n"]
+
+
+def of_the_rust(lines):
+    """The lines of the blocks that are of the domain; the others are looked at here and now."""
+    value, block = 0, []
+    for line in itertools.chain(lines, [b"> 0x0"]):
+        if line.startswith(b"> 0x"):
+            yield from block if of_the_domain(value) else alone(value, block)
+            value, block = int(line[4:], 16), []
+        block.append(line)
+
+
 def in_rusts_form(lines):
     """The lines of `esr records` or `esr listing`, each ended by a line feed, without what they have beyond the Rust's."""
     value, marks = None, iter(())
-    for line in lines:
+    for line in of_the_rust(lines):
         if line.startswith(b"> 0x"):
             value = int(line[4:], 16)
             marks = marks_of(value)

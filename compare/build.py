@@ -6,7 +6,7 @@
     compare/build.py differences [SOURCES]     also that program of sides/, over the decoder in both kinds
 
 The oracle answers lines of standard input (oracle/main.rs). There are two, in target/compare/bin/:
-  by-01         the sources, and of abort.rs what document 01 decides (filled.rs); class 0x18 is accepted undivided (msr.rs)
+  by-01         the sources, and of abort.rs what document 01 decides (filled.rs); class 0x18, of which nothing is compared, stands in (msr.rs)
   as-published  the sources as they are; of filled.rs and msr.rs only what the sources do not have
 In both, `midr` and `smccc` are left out, `bit_field` is a stand-in (bit_field.rs) and `thiserror` is Debian's package. The compiler is the
 machine's own, from 1.73 on, or else Debian's rustc-web. Nothing is fetched but Debian's packages. Exits 0, or says what failed and exits 1.

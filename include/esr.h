@@ -135,7 +135,8 @@ typedef struct esr_surveyed {
 /* Decodes a value into the front of the caller's array: RES0, ISS2, EC, IL and ISS, then ISS's own records, from high bits to low.
    First bits 37 to 63 must be 0, then the class is looked up, then its layout's checks in their order; the first failure answers, by 1 to 7, and
    where that is a reserved field, start and width name it. Then an array that has fewer slots than there are records is refused by 11, which
-   carries the slots needed. A refusal leaves the array as it was; accepted, the slots after the records stay as they were. */
+   carries the slots needed. A refusal leaves the array as it was; accepted, the slots after the records stay as they were. Of a trapped MSR or MRS, class 0x18, the
+   text of ISS is the name of the system register, as "SCTLR_EL1" in 0x62300401, if it is one of the 64 that have one. */
 esr_filled esr_decode(uint64_t esr, esr_record *slots, size_t length);
 
 /* Writes the name, long name or text of a code into the front of the buffer, without a 0 after it. 11 where the text is longer than the
