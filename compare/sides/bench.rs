@@ -1,6 +1,6 @@
 //! Times our archive beside the Rust: `decode`, the listing and the number reader, each over the same 4,096 inputs, half of them accepted.
 //!
-//!     bench ROUNDS < VALUES     VALUES is `compare/sample values`; the inputs are chosen from it
+//!     bench ROUNDS < VALUES     VALUES is `compare/sample values` without class 0x18; the inputs are chosen from it
 //!
 //! A round times each side in turn, 200 times over all inputs. Both sides are called through pointers that the compiler cannot see
 //! through, and every field of an answer is used. Before anything is timed the two sides' answers are compared. A line for each gives the
@@ -35,7 +35,7 @@ fn chosen(values: &[u64]) -> Vec<u64> {
     }
     let refusals: BTreeSet<u8> = groups.keys().map(|key| key.0).collect();
     let classes: BTreeSet<u64> = groups.keys().map(|key| key.1).collect();
-    assert!(refusals.len() == 8 && classes.len() == 64, "the values do not have all classes and refusals");
+    assert!(refusals.len() == 8 && classes.len() == 63, "the values do not have all refusals, and all classes but 0x18");
     let mut taken = Vec::new();
     for accepted in [true, false] {
         let end = taken.len() + INPUTS / 2;

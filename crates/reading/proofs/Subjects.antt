@@ -2,7 +2,7 @@
 use mathlib.Core.Path.{_≡_, refl, sym, ap, _∙_, subst}
 use mathlib.Core.Bool.{Bool, true, false, cond}
 use mathlib.Core.List.{List, [], _∷_}
-use Prim.Native.Nat.{ℕ, zero, suc, _+_, _*_, _^_, _≤_, _<_}
+use Prim.Native.Nat.{ℕ, suc, _≤_, _<_}
 use native.Mathlib.Nat.{le-of-suc-le-suc, not-suc-le-zero}
 use native.Mathlib.Omega.{arith}
 use lib.Dec.{T, eqb, leb, ltb, leb→le}
@@ -21,7 +21,7 @@ use Rattle.reading.proofs.HasBits.{bits-is, bits-of}
 
 key-is : {iss key : ℕ} → HasKey iss key → key ≡ keyOf iss
 unfolding keyOf
-key-is h = cc (h .whole, bits-is (h .hasOp0), bits-is (h .hasOp1), bits-is (h .hasCRn), bits-is (h .hasCRm), bits-is (h .hasOp2))
+key-is h = omega (arith, h .whole, bits-is (h .hasOp0), bits-is (h .hasOp1), bits-is (h .hasCRn), bits-is (h .hasCRm), bits-is (h .hasOp2))
 
 key-of : (iss : ℕ) → HasKey iss (keyOf iss)
 unfolding keyOf

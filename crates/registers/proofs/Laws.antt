@@ -1,13 +1,13 @@
 -- A table whose keys rise is searched by halves: a key's rank, how many entries at its front have smaller keys, lies between the two ends, and is where the key stands if it is there.
-use mathlib.Core.Path.{_≡_, refl, sym, ap, _∙_, subst}
+use mathlib.Core.Path.{_≡_, refl, sym, ap, _∙_}
 use mathlib.Core.Bool.{Bool, true, false, cond, _&&_}
 use mathlib.Core.List.{List, [], _∷_}
-use Prim.Native.Nat.{ℕ, zero, suc, _+_, _^_, _≤_, _<_}
+use Prim.Native.Nat.{ℕ, zero, suc, _+_, _≤_, _<_}
 use native.Mathlib.Nat.{le-of-suc-le-suc, not-suc-le-zero}
 use native.Mathlib.Omega.{arith}
-use lib.Dec.{T, eqb, ltb, leb, leb→le, ltb→lt}
+use lib.Dec.{T, eqb, ltb, leb, leb→le}
 use lib.ListN.{length, getD}
-use borrow.Author.Tests.{ltb-true, ltb-false, eqb-true, eqb-false, eq-eqb, ne-eqb, lt-ltb, le-ltb}
+use borrow.Author.Tests.{ltb-true, ltb-false, eq-eqb, ne-eqb, lt-ltb, le-ltb}
 use Rattle.promise.proofs.Tests.{both-left, both-right}
 use Rattle.registers.specs.Registers.{Register, registers, placeIn}
 

@@ -1,5 +1,5 @@
 -- #108: "a constant table of at most 64 of the manual's names sorted by key, no key twice". A key has 16 bits: Op0 on top, then Op1, CRn, CRm, Op2.
-use Prim.Native.Nat.{ℕ, zero, suc}
+use Prim.Native.Nat.{ℕ, suc}
 use Prim.Native.String.{String}
 use mathlib.Core.Bool.{cond}
 use mathlib.Core.List.{List, [], _∷_}

@@ -1,8 +1,6 @@
 -- By what the key and its place promise, under the one rule that asks for them.
-use mathlib.Core.Path.{_≡_, ap, sym, _∙_}
+use mathlib.Core.Path.{ap, sym, _∙_}
 use mathlib.Core.Bool.{Bool, cond}
-use Prim.Native.Nat.{ℕ}
-use native.Mathlib.Omega.{arith}
 use borrow.Author.Tests.{eq-eqb, ne-eqb}
 use Rattle.registers.specs.Registers.{registers, placeIn}
 use Rattle.texts.specs.Rules.{systemRegister}

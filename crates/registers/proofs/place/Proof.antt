@@ -1,6 +1,6 @@
 -- The invariant: the key's rank lies between the two ends. An entry below the key moves the lower end past it, another the upper end down to it.
 use mathlib.Core.Path.{_≡_, refl, sym}
-use Prim.Native.Nat.{ℕ, _-_, _≤_}
+use Prim.Native.Nat.{_-_, _≤_}
 use native.Mathlib.Omega.{arith}
 use Rattle.registers.specs.Registers.{registers}
 use Rattle.registers.proofs.Laws.{keysOf, placed, placed-le, past, up, down, there, not-there}
