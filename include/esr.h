@@ -42,6 +42,8 @@ enum {
     ESR_BAD_TABLE = 18,        /* a table of counts that has not exactly 64 places */
     ESR_LONG_RUN = 19,         /* a run of 2^32 values or more */
     ESR_LONG_BLOCK = 20,       /* a block of more than 65,536 bytes */
+    ESR_NO_LAYOUT = 21,        /* no layout of the class has that many leaves and fits its conditions */
+    ESR_WIDE_LEAF = 22,        /* a leaf or ISS2 that doesn't fit its width, or an IL that isn't 0 or 1 */
     ESR_BAD_REST = 23          /* something else than a space, tab, carriage return or line feed stands behind a number */
 };
 

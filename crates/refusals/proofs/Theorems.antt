@@ -9,13 +9,13 @@ use Rattle.promise.specs.Member.{member}
 use Rattle.promise.proofs.Tests.{of-member}
 use Rattle.refusals.specs.Refusals.{reasonNumber, numbers, refusalNumber}
 use Rattle.refusals.specs.declared.Reason.{Reason}
-use Rattle.refusals.specs.declared.Reason.the-variants.{None, InvalidRes0, InvalidEc, InvalidFsc, InvalidSet, InvalidAet, InvalidAm, InvalidLd64bIss, Empty, InvalidDigit, PosOverflow, ShortBuffer, BadField, BadIndex, ShortEntry, BadLength, BadVersion, BadTable, LongRun, LongBlock, BadRest}
+use Rattle.refusals.specs.declared.Reason.the-variants.{None, InvalidRes0, InvalidEc, InvalidFsc, InvalidSet, InvalidAet, InvalidAm, InvalidLd64bIss, Empty, InvalidDigit, PosOverflow, ShortBuffer, BadField, BadIndex, ShortEntry, BadLength, BadVersion, BadTable, LongRun, LongBlock, NoLayout, WideLeaf, BadRest}
 use Rattle.refusals.specs.declared.Refusal.{Refusal}
 
 abbrev reasons : List Reason
 reasons =
     None ∷ InvalidRes0 ∷ InvalidEc ∷ InvalidFsc ∷ InvalidSet ∷ InvalidAet ∷ InvalidAm ∷ InvalidLd64bIss ∷ Empty ∷ InvalidDigit ∷ PosOverflow ∷
-    ShortBuffer ∷ BadField ∷ BadIndex ∷ ShortEntry ∷ BadLength ∷ BadVersion ∷ BadTable ∷ LongRun ∷ LongBlock ∷ BadRest ∷ []
+    ShortBuffer ∷ BadField ∷ BadIndex ∷ ShortEntry ∷ BadLength ∷ BadVersion ∷ BadTable ∷ LongRun ∷ LongBlock ∷ NoLayout ∷ WideLeaf ∷ BadRest ∷ []
 
 -- the reason of a number, and None where no reason has it
 abbrev reasonIn : List Reason → ℕ → Reason
@@ -47,6 +47,8 @@ known BadVersion = (tt, refl)
 known BadTable = (tt, refl)
 known LongRun = (tt, refl)
 known LongBlock = (tt, refl)
+known NoLayout = (tt, refl)
+known WideLeaf = (tt, refl)
 known BadRest = (tt, refl)
 
 pub number-listed : (f : Refusal) → List·Memᴰ (refusalNumber f) numbers

@@ -23,6 +23,8 @@ pub enum Reason {
     BadTable,
     LongRun,
     LongBlock,
+    NoLayout,
+    WideLeaf,
     BadRest,
 }
 
@@ -52,6 +54,8 @@ impl Reason {
             Reason::BadTable => 18,
             Reason::LongRun => 19,
             Reason::LongBlock => 20,
+            Reason::NoLayout => 21,
+            Reason::WideLeaf => 22,
             Reason::BadRest => 23,
         }
     }
