@@ -6,12 +6,12 @@ use Prim.Native.Nat.{ℕ, zero, suc, _+_, _-_, _≤_, _<_}
 use native.Mathlib.Nat.{zero-add}
 use native.Mathlib.Numerals.{add-one}
 use native.Mathlib.Omega.{arith}
-use lib.Dec.{T, eqb}
+use lib.Dec.{T, eqb, ltb, eqb→eq, ltb→lt}
 use lib.ListN.{length, getD, take, drop, replicate, set, length-append, length-map}
 use lib.Seq.{take-suc, drop-cons, getD-take, length-take-le, drop-length}
 use borrow.Author.Tests.{eq-eqb, ne-eqb}
 use Rattle.promise.specs.Member.{member}
-use Rattle.promise.proofs.Tests.{true-is, is-true}
+use Rattle.promise.proofs.Tests.{true-is, is-true, every, every-mem, of-member}
 use Rattle.refusals.specs.Refusals.{refusalNumber, passed, carrying, noRefusal}
 use Rattle.refusals.specs.declared.Reason.the-variants.{InvalidEc}
 use Rattle.refusals.specs.declared.Refusal.{Refusal}
@@ -166,6 +166,23 @@ number-serves n c (x ∷ xs) h = by (member c (x .classes)) refl h (number-serve
 pub filled-served : (c : ℕ) → (layoutNumber c ≡ empty → ⊥) → (s : Served) × List·Memᴰ s layouts × T (member c (s .classes))
 unfolding layoutNumber
 filled-served c h = number-serves 0 c layouts h
+
+-- no layout serves a class of more than six bits
+six-bits : T (every (λ i s. every (λ j c. ltb c 64) 0 (s .classes)) 0 layouts)
+unfolding layouts
+six-bits = tt
+
+pub past-empty : (c : ℕ) → 64 ≤ c → layoutNumber c ≡ empty
+past-empty c h = by (eqb (layoutNumber c) empty) refl
+  where
+    by : (b : Bool) → eqb (layoutNumber c) empty ≡ b → layoutNumber c ≡ empty
+    by true e = eqb→eq (layoutNumber c) empty (is-true e)
+    by false e =
+        let f : _ = filled-served c (λ q. let z : true ≡ false = sym (eq-eqb (layoutNumber c) empty q) ∙ e in subst T z tt) in
+        let s : Served = f .0 in
+        let t : _ = every-mem (λ i s. every (λ j c. ltb c 64) 0 (s .classes)) s 0 layouts six-bits (f .1) in
+        let u : _ = every-mem (λ j c. ltb c 64) c 0 (s .classes) (t .1) (of-member c (s .classes) (f .2)) in
+        absurd (omega (arith, ltb→lt c 64 (u .1)))
 
 module _ (esr number : ℕ) (n : number ≡ layoutNumber (classOf esr)) where
   pub class-empty : number ≡ empty → refused (carrying InvalidEc (classOf esr)) ≡ classAnswer layouts esr

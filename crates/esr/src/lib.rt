@@ -1,8 +1,7 @@
 // The decoder: the class table, the top rows, the checks in order, the walk from high bits to low.
-ghost use Prim.Native.Nat.{_<_};
 ghost use Rattle.esr.specs.Decode.{failureFor, recordsFor, refused, tableAnswer};
-ghost use Rattle.esr.specs.Promises.{Decoded};
-ghost use Rattle.layouts.specs.Layouts.{layoutNumber, tableOf};
+ghost use Rattle.esr.specs.Promises.{Decoded, LayoutNumber};
+ghost use Rattle.layouts.specs.Layouts.{tableOf};
 ghost use Rattle.records.specs.Bits.{fieldOf};
 ghost use Rattle.records.specs.Sets.{recordsOf};
 ghost use mathlib.Core.Path.{_≡_};
@@ -22,7 +21,7 @@ pub struct Answer {
 }
 
 // The mark of a class without a layout.
-const EMPTY: u8 = 255;
+pub const EMPTY: u8 = 255;
 
 // The number of each class's layout, by class.
 const CLASS: [u8; 64] = [
@@ -136,11 +135,14 @@ const IL: Row = Row {
     kind: k::FREE,
 };
 
-fn layout_number(class: usize) -> u8
-    requires { ⌜ class < 64 ⌝ }
-    ensures { λ r. ⌜ r ≡ layoutNumber class ⌝ }
+// The number of the layout that serves a class; the class may be any number.
+pub fn layout_number(class: u64) -> u8
+    ensures { λ r. ⌜ LayoutNumber class r ⌝ }
 {
-    CLASS[class]
+    if 64 <= class {
+        return EMPTY;
+    }
+    CLASS[class as usize]
 }
 
 fn refuse(refusal: Refusal) -> Answer
@@ -224,7 +226,7 @@ pub fn decode(esr: u64) -> Answer
         return refuse(RES0.refusal(esr));
     }
     let class = records::field(esr, 26, 6);
-    let number = layout_number(class as usize);
+    let number = layout_number(class);
     if number == EMPTY {
         return refuse(Refusal::carrying(Reason::InvalidEc, class));
     }

@@ -1,11 +1,9 @@
 -- 01's order: the reserved top bits, the class, the layout.
 use mathlib.Core.Path.{sym, ap, _∙_}
-use native.Mathlib.Omega.{arith}
 use Rattle.texts.specs.Names.{names}
 use Rattle.texts.specs.Pool.{code, indexIn}
 use Rattle.refusals.specs.Refusals.{carrying}
 use Rattle.refusals.specs.declared.Reason.the-variants.{InvalidEc}
-use Rattle.records.proofs.Laws.{field-lt}
 use Rattle.layouts.specs.Layouts.{layoutNumber}
 use Rattle.esr.specs.Decode.{refused}
 use Rattle.esr.proofs.Laws.{top-fails, top-passes, class-empty, class-filled}
@@ -52,7 +50,7 @@ decode-spec =
     (λ c κs. search needs)
     returns
     (λ c κs. search needs)
-    (λ c κs. omega (arith, c .field .ensures, field-lt (c .before .before .before .args .esr) 26 6))
+    (λ c κs. search needs)
     (λ c κs. search needs)
     (λ c κs. search needs)
     returns-2
