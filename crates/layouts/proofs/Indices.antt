@@ -84,20 +84,24 @@ padded : (rows more : List Row) (ks : List ℕ) → Below (length rows) ks → r
 padded rows more [] b = refl
 padded rows more (k ∷ ks) b = ap₂ (λ (x : Row) (xs : List Row). x ∷ xs) (List·getD-append rows more pad k (b .0)) (padded rows more ks (b .1))
 
--- The table of a number is sound.
+-- What holds of every table of the list holds of the table of a number.
+
+module _ (P : Table → Type 0) (none : P msr) where
+  listed-has : (ss : List Served) (n : ℕ) → ((s : Served) → List·Memᴰ s ss → P (s .table)) → P (getD (tablesOf ss) n msr)
+  listed-has [] n h = none
+  listed-has (s ∷ ss) zero h = h s (List·Memᴰ·head refl)
+  listed-has (s ∷ ss) (suc n) h = listed-has ss n (λ x m. h x (List·Memᴰ·tail m))
+
+  pub table-has : ((s : Served) → List·Memᴰ s layouts → P (s .table)) → (n : ℕ) → P (tableOf n)
+  unfolding tableOf
+  table-has h n = listed-has layouts n h
 
 msr-sound : T (soundTable msr)
 unfolding msr names rules code indexIn describes onList ruleAt kindOf
 msr-sound = tt
 
-listed-sound : (ss : List Served) (n : ℕ) → ((s : Served) → List·Memᴰ s ss → T (soundTable (s .table))) → T (soundTable (getD (tablesOf ss) n msr))
-listed-sound [] n h = msr-sound
-listed-sound (s ∷ ss) zero h = h s (List·Memᴰ·head refl)
-listed-sound (s ∷ ss) (suc n) h = listed-sound ss n (λ x m. h x (List·Memᴰ·tail m))
-
-number-sound : (n v : ℕ) → Sound (rowsFor (tableOf n) v) (tableOf n .order)
-unfolding tableOf
-number-sound n v = sound (tableOf n) (listed-sound layouts n (λ s m. sound-table m)) v
+pub number-sound : (n v : ℕ) → Sound (rowsFor (tableOf n) v) (tableOf n .order)
+number-sound n v = sound (tableOf n) (table-has (λ t. T (soundTable t)) msr-sound (λ s m. sound-table m) n) v
 
 -- What the arrays hold.
 

@@ -64,7 +64,7 @@ module _ (f : Test → Bool) where
   found s t true r m e q k = ap f (sym (e tt))
   found s t false r m e q k = k q
 
-  given-is : (ts : List Test) (t : Test) → T (known ts t) → given ts (map f ts) t ≡ f t
+  pub given-is : (ts : List Test) (t : Test) → T (known ts t) → given ts (map f ts) t ≡ f t
   given-is [] t h = absurd h
   given-is (s ∷ ss) t h = found s t (same t s) (given ss (map f ss) t) (known ss t) (same-test t s) h (given-is ss t)
 

@@ -62,7 +62,7 @@ soundRows rows order =
     && every soundRow 0 rows)))
 
 -- a test passes at every list of n truth values
-abbrev atAll : ℕ → (List Bool → Bool) → Bool
+abbrev pub atAll : ℕ → (List Bool → Bool) → Bool
 atAll zero P = P []
 atAll (suc n) P = atAll n (λ (bs : List Bool). P (true ∷ bs)) && atAll n (λ (bs : List Bool). P (false ∷ bs))
 
@@ -75,7 +75,7 @@ abbrev namedIn : List Line → Test → Bool
 namedIn [] t = false
 namedIn (l ∷ ls) t = among (l .conditions) t || namedIn ls t
 
-abbrev named : List Line → List Test → List Test
+abbrev pub named : List Line → List Test → List Test
 named ls [] = []
 named ls (t ∷ ts) = cond (namedIn ls t) (t ∷ named ls ts) (named ls ts)
 
@@ -119,7 +119,7 @@ class-sound = both-right (every soundServed 0 layouts) (from classSound 0 64) al
 
 -- What the test shows of the rows and checks of any value.
 
-all-at : (P : List Bool → Bool) (bs : List Bool) → T (atAll (length bs) P) → T (P bs)
+pub all-at : (P : List Bool → Bool) (bs : List Bool) → T (atAll (length bs) P) → T (P bs)
 all-at P [] t = t
 all-at P (true ∷ bs) t =
     all-at (λ (cs : List Bool). P (true ∷ cs)) bs
