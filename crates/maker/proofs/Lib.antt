@@ -1,0 +1,5 @@
+pub mod Packing
+pub mod Steps
+pub mod Choosing
+pub mod Decides
+pub mod Theorems

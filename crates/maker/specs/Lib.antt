@@ -1,0 +1,4 @@
+pub mod Making
+pub mod Laid
+pub mod Parts
+pub mod Promises
