@@ -84,6 +84,7 @@ typedef struct esr_filled {
     uint8_t width;
 } esr_filled;
 
+/* A number that was read, or a value that was made; 0 on a refusal. */
 typedef struct esr_number {
     uint64_t value;
     uint64_t carried;
@@ -202,6 +203,13 @@ esr_entry esr_read_entry(const uint8_t *block, size_t length);
    The places after the steps, one less than there are entries, stay as they were. A block of more than 65536 bytes is refused by 20; then an array that has fewer places than
    there are steps by 11, which carries the places needed. A refusal leaves the array as it was, and the other members are 0. */
 esr_walked esr_walk(const uint8_t *block, size_t length, uint16_t *steps, size_t places);
+
+/* Makes a value of its class, IL, ISS2 and the values of ISS's leaves, which are its fields from high bits to low, RES0 among them, or ISS itself where it is undivided. The
+   rows are those of the class's layout that has so many leaves and whose conditions the leaves meet: bit 24 of data aborts, software steps and SErrors, the status, FnV and WnRV. There is at most one
+   such set of rows. 2 for a class that is not tabulated, which it carries; then 21 where no layout of the class has that many leaves and fits its conditions; then 22 where a leaf is not below
+   2^width of its row, ISS2 not below 32 or IL neither 0 nor 1; then what esr_decode refuses of the value, carrying and naming the same. What is made decodes to exactly these
+   leaves, class, IL and ISS2, and those of any value that esr_decode accepts make that value again: both are proved. The value of a refusal is 0. Any number may be passed, and any length. */
+esr_number esr_make(uint64_t ec, uint64_t il, uint64_t iss2, const uint64_t *leaves, size_t length);
 
 /* Counts a run of values: each of the 64 counts is set to how many of them esr_decode accepts and are of that class, whatever it held, and the answer has how
    many are refused, by number. All counts together are the number of values, and those of a run of two parts are the sums of those of the parts. 18 where the

@@ -1,5 +1,8 @@
--- Each promise of this crate decides its answer: it says what the answer is, and what the lent array holds then.
-use Rattle.capi.specs.Promises.{BinaryFilled, RecordsFilled, EntryAnswered, LineFilled, ListingFilled, MessageFilled, NumberAnswered, ReadAnswered, SurveyAnswered, TextFilled, ValueFilled, WalkAnswered}
+-- Each promise of this crate decides its answer: it says what the answer is, and what the lent array holds then. That of esr_make is decided as the maker's is.
+use mathlib.Core.Path.{sym, ap, _∙_}
+use Rattle.capi.specs.Answers.{makeAnswer}
+use Rattle.capi.specs.Promises.{BinaryFilled, RecordsFilled, EntryAnswered, LineFilled, ListingFilled, MakeAnswered, MessageFilled, NumberAnswered, ReadAnswered, SurveyAnswered, TextFilled, ValueFilled, WalkAnswered}
+use Rattle.maker.proofs.Decides.{make-decides}
 use Rattle.promise.proofs.Laws.{same}
 use Rattle.promise.specs.Promise.{Decides}
 
@@ -35,6 +38,10 @@ esr-read-entry-decides s a b = same
 
 pub esr-walk-decides : Decides WalkAnswered
 esr-walk-decides (block, before) a b = same
+
+pub esr-make-decides : Decides MakeAnswered
+esr-make-decides (class, il, iss2, leaves) a b p q =
+    p .2 ∙ ap makeAnswer (make-decides (class, il, iss2, leaves) (p .0) (q .0) (p .1) (q .1)) ∙ sym (q .2)
 
 pub esr-survey-decides : Decides SurveyAnswered
 esr-survey-decides (values, before) a b = same

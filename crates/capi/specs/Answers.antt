@@ -4,6 +4,7 @@ use mathlib.Core.List.{List}
 use lib.ListN.{length}
 use Rattle.entry.specs.Entries.{entryOf, bodyOf, bodyStart}
 use Rattle.number.specs.Rest.{readOf, wholeOf}
+use Rattle.maker.specs.declared.Made.{Made}
 use Rattle.refusals.specs.Refusals.{refusalNumber}
 use Rattle.refusals.specs.declared.Refusal.{Refusal}
 use Rattle.survey.specs.declared.Tally.{Tally}
@@ -66,6 +67,16 @@ walkAnswer w =
       refusal = refusalNumber (w .refusal);
       start = w .refusal .start;
       width = w .refusal .width;
+    }
+
+abbrev pub makeAnswer : Made → NumberAnswer
+makeAnswer m =
+    record {
+      value = m .value;
+      carried = m .refusal .carries;
+      refusal = refusalNumber (m .refusal);
+      start = m .refusal .start;
+      width = m .refusal .width;
     }
 
 abbrev pub surveyAnswer : Tally → SurveyAnswer

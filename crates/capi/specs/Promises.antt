@@ -4,10 +4,12 @@ use Prim.Native.Nat.{ℕ}
 use mathlib.Core.List.{List}
 use mathlib.Core.Path.{_≡_}
 use Rattle.listing.specs.Requested.{recordLine, listingOf}
+use Rattle.maker.specs.Promises.{Makes}
+use Rattle.maker.specs.declared.Made.{Made}
 use Rattle.written.specs.Requested.{valueString, binaryString, messageOf}
 use Rattle.survey.specs.Surveys.{surveyOf}
 use Rattle.texts.specs.Pool.{bytesAt}
-use Rattle.capi.specs.Answers.{numberAnswer, readAnswer, entryAnswer, surveyAnswer, walkAnswer}
+use Rattle.capi.specs.Answers.{numberAnswer, readAnswer, entryAnswer, makeAnswer, surveyAnswer, walkAnswer}
 use Rattle.capi.specs.Buffers.{filling, filledWith}
 use Rattle.capi.specs.Words.{decoding}
 use Rattle.capi.specs.declared.EntryAnswer.{EntryAnswer}
@@ -59,6 +61,10 @@ EntryAnswered s r = r ≡ entryAnswer s
 -- the walk over a block, and the caller's run afterwards: the steps in its front, or as it was
 abbrev pub WalkAnswered : List ℕ × List ℕ → WalkAnswer × List ℕ → Type 0
 WalkAnswered (block, before) r = r ≡ (walkAnswer (walking block before .0), walking block before .1)
+
+-- the value of a class, an IL, an ISS2 and a list of leaf values: what the maker makes of them
+abbrev pub MakeAnswered : ℕ × ℕ × ℕ × List ℕ → NumberAnswer → Type 0
+MakeAnswered (class, il, iss2, leaves) r = (m : Made) × Makes (class, il, iss2, leaves) m × (r ≡ makeAnswer m)
 
 -- the counts of a run of values, those by class in the caller's table
 abbrev pub SurveyAnswered : List ℕ × List ℕ → SurveyAnswer × List ℕ → Type 0

@@ -5,7 +5,7 @@ ghost use Prim.Native.Nat.{_≤_};
 ghost use Rattle.capi.specs.Answers.{filledOf};
 ghost use Rattle.capi.specs.Buffers.{front};
 ghost use Rattle.capi.specs.Words.{wordsOf, allWords};
-ghost use Rattle.capi.specs.Promises.{BinaryFilled, RecordsFilled, EntryAnswered, LineFilled, ListingFilled, MessageFilled, NumberAnswered, ReadAnswered, SurveyAnswered, TextFilled, ValueFilled, WalkAnswered};
+ghost use Rattle.capi.specs.Promises.{BinaryFilled, RecordsFilled, EntryAnswered, LineFilled, ListingFilled, MakeAnswered, MessageFilled, NumberAnswered, ReadAnswered, SurveyAnswered, TextFilled, ValueFilled, WalkAnswered};
 ghost use Rattle.records.specs.Sets.{setRoom};
 ghost use Rattle.refusals.specs.Refusals.{passed};
 ghost use Rattle.texts.specs.Pool.{bytesAt};
@@ -28,6 +28,7 @@ pub struct Filled {
     pub width: u8,
 }
 
+// A number that was read, or a value that was made.
 #[repr(C)]
 pub struct NumberAnswer {
     pub value: u64,
@@ -281,6 +282,21 @@ pub extern "C" fn esr_walk(block: &[u8], steps: &mut [u16]) -> WalkAnswer
         decoded: walked.decoded,
         offset: walked.offset,
         ended: ended.number(),
+        refusal: refusal.number(),
+        start: refusal.start,
+        width: refusal.width,
+    }
+}
+
+#[no_mangle]
+pub extern "C" fn esr_make(class: u64, il: u64, iss2: u64, leaves: &[u64]) -> NumberAnswer
+    ensures { λ r. ⌜ MakeAnswered (class, il, iss2, now (leaves .entry)) r ⌝ }
+{
+    let made = maker::make(class, il, iss2, leaves);
+    let refusal = made.refusal;
+    NumberAnswer {
+        value: made.value,
+        carried: refusal.carries,
         refusal: refusal.number(),
         start: refusal.start,
         width: refusal.width,
