@@ -484,6 +484,56 @@ static void check_surveys(void) {
     HOLDS(counts_marked(0));
 }
 
+static uint64_t leaves[ESR_RECORDS_MAX];
+
+/* The leaves of a value's ISS: its own records, or ISS where there are none; answers how many. */
+static size_t take_apart(uint64_t esr) {
+    size_t count = esr_decode(esr, slots.records, ROOM).count;
+    size_t from = count == 5 ? 4 : 5;
+    for (size_t i = from; i < count; i++) {
+        leaves[i - from] = slots.records[i].value;
+    }
+    return count - from;
+}
+
+static int makes(esr_number made, uint64_t value, refused by) {
+    return made.value == value && made.refusal == by.refusal && made.carried == by.carried && made.start == by.start && made.width == by.width;
+}
+
+static void check_made_again(uint64_t esr) {
+    static const refused none = {0, 0, 0, 0};
+    if (esr_decode(esr, slots.records, ROOM).refusal == ESR_ACCEPTED) {
+        size_t count = take_apart(esr);
+        uint64_t held[ESR_RECORDS_MAX];
+        for (size_t i = 0; i < ESR_RECORDS_MAX; i++) {
+            held[i] = leaves[i];
+        }
+        HOLDS(makes(esr_make(esr >> 26 & 0x3F, esr >> 25 & 1, esr >> 32, leaves, count), esr, none));
+        HOLDS(same((const uint8_t *)held, (const uint8_t *)leaves, sizeof held));
+    }
+}
+
+static void check_makes(void) {
+    for (size_t i = 0; i < sizeof run / sizeof run[0]; i++) {
+        check_made_again(run[i]);
+    }
+    for (size_t i = 0; i < MARKED; i++) {
+        check_made_again(values[i].esr);
+    }
+    /* Each member of a refusal, in the order of the refusals: where several hold, the first answers. */
+    static const uint64_t two[] = {1, 0x12345}, three[] = {0, 0, 0};
+    static const refused no_layout = {0, ESR_NO_LAYOUT, 0, 0}, wide = {0, ESR_WIDE_LEAF, 0, 0}, reserved = {1, ESR_INVALID_RES0, 16, 9};
+    HOLDS(makes(esr_make(0x3F, 2, 32, three, 3), 0, (refused){0x3F, ESR_INVALID_EC, 0, 0}));
+    HOLDS(makes(esr_make(~(uint64_t)0, 2, 32, three, 0), 0, (refused){~(uint64_t)0, ESR_INVALID_EC, 0, 0}));
+    HOLDS(makes(esr_make(0x15, 2, 32, three, 3), 0, no_layout));
+    HOLDS(makes(esr_make(0x15, 1, 0, two, 2), 0, wide));
+    HOLDS(makes(esr_make(0x15, 2, 0, three, 2), 0, wide));
+    HOLDS(makes(esr_make(0x15, 1, 32, three, 2), 0, wide));
+    HOLDS(makes(esr_make(0x15, 1, 31, (const uint64_t[]){1, 0x1234}, 2), 0, reserved));
+    /* No leaf is read where no layout has so many: the list that is lent here has not so many. */
+    HOLDS(makes(esr_make(0x15, 1, 0, three, ~(size_t)0 / sizeof three[0]), 0, no_layout));
+}
+
 /* The stack below a call is painted, and what is no longer paint afterwards was used; the frame of the small function that makes the call
    counts too. This file is compiled without a red zone, so that nothing of its own lies there. */
 #define PAINTED 65536
@@ -515,6 +565,14 @@ static void call_read_number(void) {
     static esr_number_read number;
     number = esr_read_number((const uint8_t *)"0x0123456789abcdef", (size_t)asked % 19);
     sink = &number;
+}
+
+/* Every class, with as many leaves as any layout has, and fewer. */
+static void call_make(void) {
+    static const uint64_t zeros[15];
+    static esr_number made;
+    made = esr_make(asked % CLASSES, 0, 0, zeros, (size_t)asked / CLASSES);
+    sink = &made;
 }
 
 static void call_survey(void) {
@@ -596,6 +654,7 @@ int main(void) {
     check_entries();
     check_walks();
     check_surveys();
+    check_makes();
     if (failures != 0) {
         return 1;
     }
@@ -614,5 +673,6 @@ int main(void) {
     measure("esr_read_entry", call_read_entry, counted, sizeof block + 1);
     measure("esr_walk", call_walk, counted, sizeof walked_block + 1);
     measure("esr_survey", call_survey, counted, CLASSES);
+    measure("esr_make", call_make, counted, CLASSES * 15);
     return 0;
 }
