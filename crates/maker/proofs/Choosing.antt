@@ -193,3 +193,17 @@ module _ (class : ℕ) (leaves : List ℕ) (number : ℕ) (n : number ≡ layout
 
     pub choose-fit : (rows : List Row) → Fits (tableOf number) leaves rows → Chooses class leaves (chosen rows)
     choose-fit rows f = fit served rows (subst (λ (k : ℕ). Fits (tableOf k) leaves rows) n f)
+
+-- The rows at the index that is answered are those that fit.
+pub fitting-rows : (class : ℕ) (leaves : List ℕ) (r : ℕ) → Fitting (class, leaves) r → r < sets → Fits (tableFor class) leaves (rowsFor (tableFor class) (outcomeOf r))
+fitting-rows class leaves r p less = by (p .1) (p .2)
+  where
+    by : {c : Choice} → Chooses class leaves c → r ≡ indexFor class leaves c → Fits (tableFor class) leaves (rowsFor (tableFor class) (outcomeOf r))
+    by (unserved n) e = absurd (omega arith)
+    by (unfit n never) e = absurd (omega arith)
+    by (fit n rows f) e =
+        subst (λ (zs : List Row). Fits (tableFor class) leaves zs)
+        (f .conditions
+        ∙ set-at (leafRows (tableFor class) rows) leaves (tableFor class) (knows (layoutNumber class) leaves)
+        ∙ ap (λ (k : ℕ). rowsFor (tableFor class) (outcomeOf k)) (sym e))
+        f

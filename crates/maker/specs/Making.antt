@@ -46,7 +46,7 @@ packed (r ∷ rs) (x ∷ xs) = x * 2 ^ (r .start) + packed rs xs
 unfoldable pub valueOf : ℕ → ℕ → ℕ → List Row → List ℕ → ℕ
 valueOf class il iss2 rows leaves = iss2 * 2 ^ 32 + (class * 2 ^ 26 + (il * 2 ^ 25 + packed rows leaves))
 
--- "On a refusal the value is 0"
+-- a refusal has the value 0
 abbrev pub nothing : Refusal → Made
 nothing f = record { value = 0; refusal = f }
 
