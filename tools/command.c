@@ -12,7 +12,7 @@ LINUX_START;
 
 /* A program is proved, and asks for what is defined below alone. It is null where it was not linked. */
 typedef int program(void);
-__attribute__((weak)) program esr_listing, esr_records, esr_number, esr_entry, esr_walk, esr_survey, esr_survey_sum;
+__attribute__((weak)) program esr_listing, esr_records, esr_number, esr_entry, esr_walk, esr_survey, esr_survey_sum, esr_make;
 
 long read(int file, void *bytes, size_t length);
 long write(int file, const void *bytes, size_t length);
@@ -336,6 +336,16 @@ static void survey(char **given) {
     }
 }
 
+/* The numbers are words, or lines of standard input; after --help one is the class. */
+static void make(char **given) {
+    static const char *const options[] = {"--help", NULL};
+    char **numbers = after_option(given, options);
+    if (option != NULL && (numbers[0] == NULL || numbers[1] != NULL)) {
+        fail("one class at a time: ", "esr make --help CLASS", "");
+    }
+    run(esr_make, numbers);
+}
+
 static void obey(char **given) {
     const char *first = *given != NULL ? *given : "";
     if (is(first, "help") || is(first, "--help") || is(first, "-h")) {
@@ -352,6 +362,8 @@ static void obey(char **given) {
         run_on_file(esr_walk, given + 1, "esr walk FILE");
     } else if (is(first, "survey")) {
         survey(given + 1);
+    } else if (is(first, "make")) {
+        make(given + 1);
     } else if (first[0] != 0 && first[0] != '+' && (first[0] < '0' || '9' < first[0]) && !is(first, "--remarks")) {
         fail("no command '", first, "', and a value begins with a digit; 'esr help' tells what there is");
     } else {

@@ -27,7 +27,13 @@ const NO_LAYOUT: u8 = 21;
 
 const WIDE_LEAF: u8 = 22;
 
-fn put_no_layout_line(buf: &mut [u8], at: usize, refusal: Refusal, class: u64, count: usize) -> usize
+fn put_no_layout_line(
+    buf: &mut [u8],
+    at: usize,
+    refusal: Refusal,
+    class: u64,
+    count: usize,
+) -> usize
     ensures { λ r. ⌜ Appends (reasonLine refusal (noLayout class (layoutNumber class) count)) (at, now (buf .entry)) (r, now (buf .exit)) ⌝ }
 {
     let mut next = put_refused(buf, at, refusal);
