@@ -47,18 +47,20 @@ eqb-bit false = refl
 pub describes-small : (rule value : ℕ) → T (describes rule value) → value < 64
 describes-small rule value t = omega (arith, describes-below rule value t, codes-small rule)
 
+-- bits say what a test that fails from 64 on says
+pub bits-in : (f : ℕ → Bool) → ((x : ℕ) → T (f x) → x < 64) → (value : ℕ) → bitIn (bitsOf f 0 64) value ≡ f value
+unfolding bitIn
+bits-in f small value = by-test (ltb value 64) refl (f value) refl
+  where
+    by-test : (b : Bool) → ltb value 64 ≡ b → (s : Bool) → f value ≡ s → cond b (eqb (bitsOf f 0 64 / 2 ^ value % 2) 1) false ≡ f value
+    by-test true e s q = ap (λ x. eqb x 1) (bits-at f value 0 64 (ltb-true value 64 e)) ∙ eqb-bit (f (0 + value)) ∙ ap f (zero-add value)
+    by-test false e true q = absurd (omega (arith, ltb-false value 64 e, small value (subst T (sym q) tt)))
+    by-test false e false q = sym q
+
 -- the bits of a rule say which values it describes
 pub bit-in : (rule value : ℕ) → bitIn (numbersOf rule .0) value ≡ describes rule value
-unfolding bitIn numbersOf
-bit-in rule value = by-test (ltb value 64) refl (describes rule value) refl
-  where
-    by-test : (b : Bool) → ltb value 64 ≡ b → (s : Bool) → describes rule value ≡ s
-        → cond b (eqb (bitsOf (describes rule) 0 64 / 2 ^ value % 2) 1) false ≡ describes rule value
-    by-test true e s q =
-        ap (λ x. eqb x 1) (bits-at (describes rule) value 0 64 (ltb-true value 64 e)) ∙ eqb-bit (describes rule (0 + value)) ∙ ap (describes rule) (zero-add value)
-    by-test false e true q =
-        absurd (omega (arith, ltb-false value 64 e, describes-small rule value (subst T (sym q) tt)))
-    by-test false e false q = sym q
+unfolding numbersOf
+bit-in rule value = bits-in (describes rule) (describes-small rule) value
 
 -- no rule's texts start past the last one's
 codes-le : (rs : List Rule) (n : ℕ) → codesOf (take n rs) ≤ codesOf rs

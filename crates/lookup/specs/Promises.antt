@@ -5,6 +5,7 @@ use mathlib.Core.List.{List}
 use mathlib.Core.Path.{_≡_}
 use lib.ListN.{length}
 use Rattle.texts.specs.Pool.{bytesAt, lengthIn, describes, textCode}
+use Rattle.lookup.specs.Descriptions.{bitIn}
 
 -- the length of a text; a code that no text has gives 0
 abbrev pub LengthOf : ℕ → ℕ → Type 0
@@ -20,3 +21,7 @@ Describes (rule, value) r = r ≡ describes rule value
 
 abbrev pub TextCode : ℕ × ℕ → ℕ → Type 0
 TextCode (rule, value) r = r ≡ textCode rule value
+
+-- whether a number is one of those that bits tell
+abbrev pub Has : ℕ × ℕ → Bool → Type 0
+Has (values, value) r = r ≡ bitIn values value

@@ -1,6 +1,6 @@
 // What stands in the pool: the length of a text by its code, and how a rule describes a value.
-ghost use Rattle.lookup.specs.Promises.{LengthIn, LengthOf, Describes, TextCode};
-ghost use Rattle.lookup.specs.Descriptions.{bitIn, numbersOf};
+ghost use Rattle.lookup.specs.Promises.{LengthIn, LengthOf, Describes, Has, TextCode};
+ghost use Rattle.lookup.specs.Descriptions.{numbersOf};
 ghost use mathlib.Core.Path.{_≡_};
 use texts::pool;
 use texts::rules;
@@ -56,15 +56,16 @@ fn in_numbers(rule: u8) -> Descriptions
         rules::WNR_NOT_VALID => Descriptions(0x1, pool::WNR_NOT_VALID_FIRST),
         rules::MESSAGE => Descriptions(0xFE, pool::MESSAGE_FIRST),
         rules::MESSAGE_END => Descriptions(0x82, pool::MESSAGE_END_FIRST),
-        rules::OWN_WORDS => Descriptions(0x91_C700, pool::OWN_WORDS_FIRST),
+        rules::OWN_WORDS => Descriptions(0x391_C700, pool::OWN_WORDS_FIRST),
         rules::MSR_READ => Descriptions(0x3, pool::MSR_READ_FIRST),
         rules::SYSTEM_REGISTER => Descriptions(0xFFFF_FFFF_FFFF_FFFF, pool::SYSTEM_REGISTER_FIRST),
         _ => Descriptions(0, texts::COUNT as u16),
     }
 }
 
-fn has(values: u64, value: u64) -> bool
-    ensures { λ r. ⌜ r ≡ bitIn values value ⌝ }
+// Whether a number is one of those that bits tell.
+pub fn has(values: u64, value: u64) -> bool
+    ensures { λ r. ⌜ Has (values, value) r ⌝ }
 {
     value < 64 && (values >> value) & 1 == 1
 }

@@ -26,6 +26,10 @@ pub true-is : (b : Bool) → T b → b ≡ true
 true-is true t = refl
 true-is false t = absurd t
 
+pub false-is : (b : Bool) → (T b → ⊥) → b ≡ false
+false-is true h = absurd (h tt)
+false-is false h = refl
+
 pub is-true : {b : Bool} → b ≡ true → T b
 is-true e = subst T (sym e) tt
 

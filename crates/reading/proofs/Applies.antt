@@ -8,7 +8,7 @@ use Prim.Native.Nat.{ℕ, suc, _+_, _≤_}
 use lib.Dec.{T, eqb, leb, leb→le, eqb→eq, T-not, not-T}
 use borrow.Author.Tests.{eq-eqb}
 use Rattle.promise.specs.Member.{member}
-use Rattle.promise.proofs.Tests.{both-left, both-right, both-intro, true-is, is-true, or-left, or-right, member-of, of-member, every, every-mem}
+use Rattle.promise.proofs.Tests.{both-left, both-right, both-intro, true-is, false-is, is-true, or-left, or-right, member-of, of-member, every, every-mem}
 use Rattle.texts.specs.Rules.{Text}
 use Rattle.texts.specs.Pool.{onList, describes, ruleAt}
 use Rattle.refusals.specs.Refusals.{reasonNumber}
@@ -22,10 +22,6 @@ use Rattle.tables.specs.Tables.{Served, layouts, res0, wf, mcr, mcrr, ldc, sve,
 use Rattle.reading.specs.Refusing.{refusing}
 use Rattle.reading.specs.Reading.{Holding, Fulfils, Meets, Applying, none, there, away, Listed}
 use Rattle.reading.proofs.HasBits.{bits-is, bits-of, inner}
-
-pub false-is : (b : Bool) → (T b → ⊥) → b ≡ false
-false-is true h = absurd (h tt)
-false-is false h = refl
 
 -- A value on the list of a rule, and its computed test.
 

@@ -8,7 +8,7 @@ use Prim.Native.Nat.{ℕ, _+_}
 use lib.Dec.{T, eqb, leb, eqb→eq, leb→le}
 use borrow.Author.Tests.{eq-eqb}
 use Rattle.promise.specs.Member.{member}
-use Rattle.promise.proofs.Tests.{both-left, true-is, is-true}
+use Rattle.promise.proofs.Tests.{both-left, true-is, false-is, is-true}
 use Rattle.texts.specs.Pool.{describes, firstOf, textCode, textAt, descriptionOf}
 use Rattle.texts.proofs.Laws.{text-described}
 use Rattle.refusals.specs.Refusals.{refusalNumber, carrying, noRefusal}
@@ -26,7 +26,7 @@ use Rattle.reading.specs.Refusing.{refusing, Met, Unmet, notZero, notLis
 use Rattle.reading.specs.Reading.{Listed, Allowed, Holds, HoldAll, none, more}
 use Rattle.reading.proofs.HasBits.{bits-is, bits-of, inner}
 use Rattle.reading.proofs.Subjects.{speaks-is, subject-speaks}
-use Rattle.reading.proofs.Applies.{numbered, fitting, false-is, listed-describes, describes-listed}
+use Rattle.reading.proofs.Applies.{numbered, fitting, listed-describes, describes-listed}
 
 -- What a kind allows, and its computed test.
 

@@ -8,7 +8,7 @@ use Prim.Native.Nat.{ℕ, _+_}
 use lib.Dec.{T, leb}
 use borrow.Author.Tests.{ne-eqb}
 use Rattle.promise.specs.Member.{member}
-use Rattle.promise.proofs.Tests.{true-is, both-right, member-of, of-member}
+use Rattle.promise.proofs.Tests.{true-is, false-is, both-right, member-of, of-member}
 use Rattle.texts.specs.Rules.{className}
 use Rattle.texts.specs.Pool.{describes}
 use Rattle.refusals.specs.Refusals.{refusalNumber, passed, carrying, noRefusal}
@@ -25,7 +25,7 @@ use Rattle.esr.specs.Decode.{firstFailure, refused, accepted, failureFor, recor
 use Rattle.esr.specs.declared.Answer.{Answer}
 use Rattle.reading.specs.Reading.{Classed, HoldAll, Reading}
 use Rattle.reading.specs.Refusing.{refusing, Ordered, Checks, unserved as noneServed, served, First, Refusing}
-use Rattle.reading.proofs.Applies.{fitting, numbered, false-is, atIss, fitted-lines, applying-is, applying-of, kept-fitting}
+use Rattle.reading.proofs.Applies.{fitting, numbered, atIss, fitted-lines, applying-is, applying-of, kept-fitting}
 use Rattle.reading.proofs.Served.{ClassOf, unserved, servedBy, class-of}
 use Rattle.reading.proofs.Judge.{Each, each-cons, Pass, pass-first, first-is, pass-or-first, first-number, hold-all-is, hold-all-pass, hold-all-of, first-iss, records-iss}
 use Rattle.reading.proofs.Ordered.{ordered-of, ordered-is, checked-among, checks-pass, pass-checks}

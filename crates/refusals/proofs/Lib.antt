@@ -1,3 +1,4 @@
 pub mod Cases
+pub mod Laws
 pub mod Decides
 pub mod Theorems

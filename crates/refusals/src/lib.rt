@@ -1,5 +1,5 @@
-// 01's refusals: the reason, its number, and what a refusal carries. Nothing lies below but what a promise is.
-ghost use Rattle.refusals.specs.Promises.{Carrying, Number};
+// The refusals of 01 and 02: the reason, its number, and what a refusal carries. Nothing lies below but what a promise is.
+ghost use Rattle.refusals.specs.Promises.{Carrying, Number, ValueNumber, ValuePlace};
 
 // The reasons, in the order of their numbers; None where nothing is refused.
 pub enum Reason {
@@ -26,6 +26,8 @@ pub enum Reason {
     NoLayout,
     WideLeaf,
     BadRest,
+    InvalidWu,
+    InvalidVncr,
 }
 
 impl Reason {
@@ -57,6 +59,8 @@ impl Reason {
             Reason::NoLayout => 21,
             Reason::WideLeaf => 22,
             Reason::BadRest => 23,
+            Reason::InvalidWu => 24,
+            Reason::InvalidVncr => 25,
         }
     }
 }
@@ -95,4 +99,39 @@ impl Refusal {
         let reason = self.reason;
         reason.number()
     }
+}
+
+// How many numbers there are that a value can be refused by: 01's 1 to 7, and 24 and 25 of strict reading (#110).
+pub const VALUE_NUMBERS: usize = 9;
+
+// The number at a place of these, in their order; 0 past the last.
+pub fn value_number(place: usize) -> u8
+    ensures { λ r. ⌜ ValueNumber place r ⌝ }
+{
+    match place {
+        0 => 1,
+        1 => 2,
+        2 => 3,
+        3 => 4,
+        4 => 5,
+        5 => 6,
+        6 => 7,
+        7 => 24,
+        8 => 25,
+        _ => 0,
+    }
+}
+
+// The place of a number; one past the last where a value cannot be refused by it.
+pub fn value_place(number: u8) -> usize
+    ensures { λ r. ⌜ ValuePlace number r ⌝ }
+{
+    let mut place: usize = 0;
+    while place < VALUE_NUMBERS {
+        if value_number(place) == number {
+            return place;
+        }
+        place += 1;
+    }
+    VALUE_NUMBERS
 }

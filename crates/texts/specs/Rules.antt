@@ -404,7 +404,7 @@ messageEnd =
     7 means " for trapped LD64B or ST64B*" ∷
     [])
 
--- Words of our own for the refusals of lines and of entries (02 adds some up to 29), by the refusal's number.
+-- Words of our own for the refusals of lines, of entries and of strict reading (02 adds some up to 29), by the refusal's number.
 abbrev pub ownWords : Rule
 ownWords =
     rule 47 32 (
@@ -416,6 +416,8 @@ ownWords =
     16 means "the entry's version is not 1" ∷
     20 means "the block is longer than 65,536 bytes" ∷
     23 means "something else stands behind the number" ∷
+    24 means "WU is 1, which is reserved" ∷
+    25 means "VNCR is not 0, and the core has no nested virtualisation" ∷
     [])
 
 -- Direction of MSR and MRS (#108: "text Read (1) or Write (0)")

@@ -1,0 +1,4 @@
+pub mod Stricter
+pub mod Strict
+pub mod Code
+pub mod Promises
