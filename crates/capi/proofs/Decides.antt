@@ -1,13 +1,16 @@
 -- Each promise of this crate decides its answer: it says what the answer is, and what the lent array holds then. That of esr_make is decided as the maker's is.
 use mathlib.Core.Path.{sym, ap, _∙_}
 use Rattle.capi.specs.Answers.{makeAnswer}
-use Rattle.capi.specs.Promises.{BinaryFilled, RecordsFilled, EntryAnswered, LineFilled, ListingFilled, MakeAnswered, MessageFilled, NumberAnswered, ReadAnswered, SurveyAnswered, TextFilled, ValueFilled, WalkAnswered}
+use Rattle.capi.specs.Promises.{BinaryFilled, RecordsFilled, EntryAnswered, LineFilled, ListingFilled, MakeAnswered, MessageFilled, NumberAnswered, ReadAnswered, StrictlyFilled, SurveyAnswered, TextFilled, ValueFilled, WalkAnswered}
 use Rattle.maker.proofs.Decides.{make-decides}
 use Rattle.promise.proofs.Laws.{same}
 use Rattle.promise.specs.Promise.{Decides}
 
 pub esr-decode-decides : Decides RecordsFilled
 esr-decode-decides (esr, before) a b = same
+
+pub esr-decode-strict-decides : Decides StrictlyFilled
+esr-decode-strict-decides (esr, nested, before) a b = same
 
 pub esr-text-decides : Decides TextFilled
 esr-text-decides (code, before) a b = same

@@ -2,13 +2,12 @@
 -- of an answer, of which each has its slot.
 use Prim.Native.Nat.{ℕ, suc, _+_, _≤_, _<_}
 use mathlib.Core.List.{List, [], _∷_, _++_, append-assoc}
-use mathlib.Core.Path.{_≡_, refl, sym, ap, ap₂, _∙_}
+use mathlib.Core.Path.{_≡_, refl, sym, ap, ap₂, subst, _∙_}
 use native.Mathlib.Numerals.{add-one}
 use native.Mathlib.Omega.{arith}
 use lib.ListN.{length, getD, take, drop, set, length-map, List·getD-map}
 use lib.Seq.{take-suc, drop-cons, set-at, length-take-le, take-length, getD-take}
 use borrow.Author.Tests.{eq-eqb, ne-eqb, le-leb, lt-leb}
-use Rattle.esr.specs.Decode.{answerOf}
 use Rattle.esr.specs.declared.Answer.{Answer}
 use Rattle.written.specs.Outcomes.{Outcome, Answers}
 use Rattle.written.specs.declared.Written.{Written}
@@ -17,6 +16,9 @@ use Rattle.records.specs.declared.Records.{Records}
 use Rattle.refusals.specs.Refusals.{carrying, noRefusal, refusalNumber}
 use Rattle.refusals.specs.declared.Reason.the-variants.{ShortBuffer}
 use Rattle.refusals.specs.declared.Refusal.{Refusal}
+use Rattle.strict.specs.Strict.{answerBy}
+use Rattle.strict.specs.declared.Profile.{Profile}
+use Rattle.strict.proofs.Laws.{profile-room}
 use Rattle.capi.specs.Answers.{filledOf}
 use Rattle.capi.specs.Buffers.{front, filling, filledWith}
 use Rattle.capi.specs.Words.{wordsOf, allWords, decoding}
@@ -68,15 +70,19 @@ filled-requested o before a e =
 -- The records of an answer.
 
 -- the refusal of the value, or its records
-module _ (esr : ℕ) {a : Answer} {number : ℕ} (is : a ≡ answerOf esr) (numbered : number ≡ refusalNumber (a .refusal)) (before : List (List ℕ)) where
-  pub decode-refused : {r : Filled} → (number ≡ 0 → ⊥) → r ≡ filledOf (a .refusal) 0 → (r, before) ≡ decoding esr before
+module _ (profile : Profile) (esr : ℕ) {a : Answer} {number : ℕ} (is : a ≡ answerBy profile esr) (numbered : number ≡ refusalNumber (a .refusal)) (before : List (List ℕ)) where
+  pub decode-refused : {r : Filled} → (number ≡ 0 → ⊥) → r ≡ filledOf (a .refusal) 0 → (r, before) ≡ decoding profile esr before
   unfolding decoding
   decode-refused h e =
       ap (λ (x : Filled). (x, before)) e ∙ rw (← is) (rw (ne-eqb (refusalNumber (a .refusal)) 0 (λ z. h (numbered ∙ z))) refl)
 
-  pub decode-read : number ≡ 0 → filling (allWords (a .records)) before ≡ decoding esr before
+  pub decode-read : number ≡ 0 → filling (allWords (a .records)) before ≡ decoding profile esr before
   unfolding decoding
   decode-read h = rw (← is) (rw (eq-eqb (refusalNumber (a .refusal)) 0 (sym numbered ∙ h)) refl)
+
+-- a set has room for what it counts
+pub room : (profile : Profile) (esr : ℕ) {a : Answer} → a ≡ answerBy profile esr → length (a .records .items) ≡ setRoom → a .records .count ≤ setRoom
+room profile esr is = subst (λ (x : Answer). length (x .records .items) ≡ setRoom → x .records .count ≤ setRoom) (sym is) (profile-room profile esr)
 
 -- a record's slot among those of all records of a set
 pub slot-at : (s : Records) (i : ℕ) → i < s .count

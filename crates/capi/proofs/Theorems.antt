@@ -11,7 +11,6 @@ use lib.Seq.{length-take-le}
 use borrow.Author.Tests.{eqb-true, eqb-false}
 use Rattle.entry.proofs.Laws.{facts, body-sound, body-refused}
 use Rattle.entry.specs.Entries.{judged, sound, bodyOf}
-use Rattle.esr.specs.Decode.{answerOf}
 use Rattle.written.specs.Outcomes.{Outcome, refused, text, refusal, answered, left}
 use Rattle.written.specs.declared.Written.{Written}
 use Rattle.records.specs.Bits.{fieldOf}
@@ -20,6 +19,8 @@ use Rattle.records.specs.declared.Record.{Record}
 use Rattle.records.proofs.ByMark.{mark-small}
 use Rattle.refusals.specs.Refusals.{carrying, noRefusal, passed, reasonNumber}
 use Rattle.refusals.specs.declared.Reason.the-variants.{ShortBuffer}
+use Rattle.strict.specs.Strict.{answerBy}
+use Rattle.strict.specs.declared.Profile.{Profile}
 use Rattle.capi.specs.Answers.{filledOf, entryAnswer}
 use Rattle.capi.specs.Buffers.{filling, filledWith}
 use Rattle.capi.specs.Words.{wordsOf, allWords, decoding}
@@ -39,10 +40,10 @@ pub text-kept : {A : Type 0} (content before : List A) → Kept before (filling 
 unfolding filling
 text-kept content before = by-test (leb (length content) (length before)) (record { kept = λ h. absurd (h refl) }) (record { kept = λ h. refl })
 
-pub decode-kept : (esr : ℕ) (before : List (List ℕ)) → Kept before (decoding esr before)
+pub decode-kept : (profile : Profile) (esr : ℕ) (before : List (List ℕ)) → Kept before (decoding profile esr before)
 unfolding decoding
-decode-kept esr before =
-    by-test (passed (answerOf esr .refusal)) (text-kept (allWords (answerOf esr .records)) before) (record { kept = λ h. refl })
+decode-kept profile esr before =
+    by-test (passed (answerBy profile esr .refusal)) (text-kept (allWords (answerBy profile esr .records)) before) (record { kept = λ h. refl })
 
 pub filled-kept : (o : Outcome) (before : List ℕ) → Kept before (filledWith o before)
 unfolding filledWith answered left

@@ -7,6 +7,7 @@ use Rattle.number.specs.Rest.{readOf, wholeOf}
 use Rattle.maker.specs.declared.Made.{Made}
 use Rattle.refusals.specs.Refusals.{refusalNumber}
 use Rattle.refusals.specs.declared.Refusal.{Refusal}
+use Rattle.survey.specs.Surveys.{ordinaryOf}
 use Rattle.survey.specs.declared.Tally.{Tally}
 use Rattle.capi.specs.declared.EntryAnswer.{EntryAnswer}
 use Rattle.capi.specs.declared.Filled.{Filled}
@@ -83,7 +84,7 @@ abbrev pub surveyAnswer : Tally → SurveyAnswer
 surveyAnswer t =
     record {
       carried = t .refusal .carries;
-      refused = t .refused;
+      refused = ordinaryOf t;
       refusal = refusalNumber (t .refusal);
       start = t .refusal .start;
       width = t .refusal .width;

@@ -7,11 +7,12 @@ use Rattle.listing.specs.Requested.{recordLine, listingOf}
 use Rattle.maker.specs.Promises.{Makes}
 use Rattle.maker.specs.declared.Made.{Made}
 use Rattle.written.specs.Requested.{valueString, binaryString, messageOf}
+use Rattle.strict.specs.declared.Profile.the-variants.{Ordinary}
 use Rattle.survey.specs.Surveys.{surveyOf}
 use Rattle.texts.specs.Pool.{bytesAt}
 use Rattle.capi.specs.Answers.{numberAnswer, readAnswer, entryAnswer, makeAnswer, surveyAnswer, walkAnswer}
 use Rattle.capi.specs.Buffers.{filling, filledWith}
-use Rattle.capi.specs.Words.{decoding}
+use Rattle.capi.specs.Words.{decoding, strictOf}
 use Rattle.capi.specs.declared.EntryAnswer.{EntryAnswer}
 use Rattle.capi.specs.declared.Filled.{Filled}
 use Rattle.capi.specs.declared.NumberAnswer.{NumberAnswer}
@@ -22,7 +23,11 @@ use Rattle.walk.specs.Walks.{walking}
 
 -- the records of a value in the front of the caller's slots
 abbrev pub RecordsFilled : ℕ × List (List ℕ) → Filled × List (List ℕ) → Type 0
-RecordsFilled (esr, before) r = r ≡ decoding esr before
+RecordsFilled (esr, before) r = r ≡ decoding Ordinary esr before
+
+-- the same, read strictly (#110): on a core without nested virtualisation where the number that says so is 0, else on one with it
+abbrev pub StrictlyFilled : ℕ × ℕ × List (List ℕ) → Filled × List (List ℕ) → Type 0
+StrictlyFilled (esr, nested, before) r = r ≡ decoding (strictOf nested) esr before
 
 -- the text of a code in the front of the caller's buffer; a code that no text has gives none
 abbrev pub TextFilled : ℕ × List ℕ → Filled × List ℕ → Type 0
@@ -60,7 +65,7 @@ EntryAnswered s r = r ≡ entryAnswer s
 
 -- the walk over a block, and the caller's run afterwards: the steps in its front, or as it was
 abbrev pub WalkAnswered : List ℕ × List ℕ → WalkAnswer × List ℕ → Type 0
-WalkAnswered (block, before) r = r ≡ (walkAnswer (walking block before .0), walking block before .1)
+WalkAnswered (block, before) r = r ≡ (walkAnswer (walking Ordinary block before .0), walking Ordinary block before .1)
 
 -- the value of a class, an IL, an ISS2 and a list of leaf values: what the maker makes of them
 abbrev pub MakeAnswered : ℕ × ℕ × ℕ × List ℕ → NumberAnswer → Type 0
@@ -68,4 +73,4 @@ MakeAnswered (class, il, iss2, leaves) r = (m : Made) × Makes (class, il, iss2,
 
 -- the counts of a run of values, those by class in the caller's table
 abbrev pub SurveyAnswered : List ℕ × List ℕ → SurveyAnswer × List ℕ → Type 0
-SurveyAnswered (values, before) r = r ≡ (surveyAnswer (surveyOf values before .0), surveyOf values before .1)
+SurveyAnswered (values, before) r = r ≡ (surveyAnswer (surveyOf Ordinary values before .0), surveyOf Ordinary values before .1)

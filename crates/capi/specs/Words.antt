@@ -2,12 +2,15 @@
 use Prim.Native.Nat.{ℕ, _+_, _*_, _^_}
 use mathlib.Core.Bool.{cond}
 use mathlib.Core.List.{List, [], _∷_, map}
-use Rattle.esr.specs.Decode.{answerOf}
+use lib.Dec.{eqb}
 use Rattle.records.specs.Kinds.{markNumber}
 use Rattle.records.specs.Sets.{listOf}
 use Rattle.records.specs.declared.Record.{Record}
 use Rattle.records.specs.declared.Records.{Records}
 use Rattle.refusals.specs.Refusals.{passed}
+use Rattle.strict.specs.Strict.{answerBy}
+use Rattle.strict.specs.declared.Profile.{Profile}
+use Rattle.strict.specs.declared.Profile.the-variants.{Strict, Nested}
 use Rattle.capi.specs.Buffers.{refusing, filling}
 use Rattle.capi.specs.declared.Filled.{Filled}
 
@@ -22,9 +25,13 @@ wordsOf x =
 abbrev pub allWords : Records → List (List ℕ)
 allWords s = map wordsOf (listOf s)
 
--- a refusal of the value comes before 11
-unfoldable pub decoding : ℕ → List (List ℕ) → Filled × List (List ℕ)
-decoding esr before =
-    cond (passed (answerOf esr .refusal))
-    (filling (allWords (answerOf esr .records)) before)
-    (refusing (answerOf esr .refusal) before)
+-- of a value, read by a profile; a refusal of the value comes before 11
+unfoldable pub decoding : Profile → ℕ → List (List ℕ) → Filled × List (List ℕ)
+decoding profile esr before =
+    cond (passed (answerBy profile esr .refusal))
+    (filling (allWords (answerBy profile esr .records)) before)
+    (refusing (answerBy profile esr .refusal) before)
+
+-- how C says that the core has nested virtualisation: by any number but 0
+abbrev pub strictOf : ℕ → Profile
+strictOf nested = cond (eqb nested 0) Strict Nested

@@ -4,8 +4,8 @@
 ghost use Prim.Native.Nat.{_≤_};
 ghost use Rattle.capi.specs.Answers.{filledOf};
 ghost use Rattle.capi.specs.Buffers.{front};
-ghost use Rattle.capi.specs.Words.{wordsOf, allWords};
-ghost use Rattle.capi.specs.Promises.{BinaryFilled, RecordsFilled, EntryAnswered, LineFilled, ListingFilled, MakeAnswered, MessageFilled, NumberAnswered, ReadAnswered, SurveyAnswered, TextFilled, ValueFilled, WalkAnswered};
+ghost use Rattle.capi.specs.Words.{allWords, decoding, wordsOf};
+ghost use Rattle.capi.specs.Promises.{BinaryFilled, RecordsFilled, EntryAnswered, LineFilled, ListingFilled, MakeAnswered, MessageFilled, NumberAnswered, ReadAnswered, StrictlyFilled, SurveyAnswered, TextFilled, ValueFilled, WalkAnswered};
 ghost use Rattle.records.specs.Sets.{setRoom};
 ghost use Rattle.refusals.specs.Refusals.{passed};
 ghost use Rattle.texts.specs.Pool.{bytesAt};
@@ -16,6 +16,8 @@ use records::Record;
 use records::Records;
 use refusals::Reason;
 use refusals::Refusal;
+use strict::Profile;
+use strict::decode_by;
 use written::Written;
 
 // How many slots or bytes the front of the caller's array now holds; none on a refusal.
@@ -130,11 +132,10 @@ fn put_records(records: Records, slots: &mut [[u64; 2]])
     }
 }
 
-#[no_mangle]
-pub extern "C" fn esr_decode(esr: u64, slots: &mut [[u64; 2]]) -> Filled
-    ensures { λ r. ⌜ RecordsFilled (esr, now (slots .entry)) (r, now (slots .exit)) ⌝ }
+fn decode_into(profile: Profile, esr: u64, slots: &mut [[u64; 2]]) -> Filled
+    ensures { λ r. ⌜ (r, now (slots .exit)) ≡ decoding profile esr (now (slots .entry)) ⌝ }
 {
-    let answer = esr::decode(esr);
+    let answer = decode_by(profile, esr);
     let refusal = answer.refusal;
     if refusal.number() != 0 {
         return filled_of(refusal, 0);
@@ -145,6 +146,24 @@ pub extern "C" fn esr_decode(esr: u64, slots: &mut [[u64; 2]]) -> Filled
     }
     put_records(answer.records, slots);
     filled_of(Refusal::NONE, count)
+}
+
+#[no_mangle]
+pub extern "C" fn esr_decode(esr: u64, slots: &mut [[u64; 2]]) -> Filled
+    ensures { λ r. ⌜ RecordsFilled (esr, now (slots .entry)) (r, now (slots .exit)) ⌝ }
+{
+    decode_into(Profile::Ordinary, esr, slots)
+}
+
+// Any number but 0 says that the core has nested virtualisation.
+#[no_mangle]
+pub extern "C" fn esr_decode_strict(esr: u64, nested: u8, slots: &mut [[u64; 2]]) -> Filled
+    ensures { λ r. ⌜ StrictlyFilled (esr, nested, now (slots .entry)) (r, now (slots .exit)) ⌝ }
+{
+    if nested == 0 {
+        return decode_into(Profile::Strict, esr, slots);
+    }
+    decode_into(Profile::Nested, esr, slots)
 }
 
 fn write_text(code: u16, buf: &mut [u8])
@@ -273,7 +292,7 @@ pub extern "C" fn esr_read_entry(block: &[u8]) -> EntryAnswer
 pub extern "C" fn esr_walk(block: &[u8], steps: &mut [u16]) -> WalkAnswer
     ensures { λ r. ⌜ WalkAnswered (now (block .entry), now (steps .entry)) (r, now (steps .exit)) ⌝ }
 {
-    let walked = walk::walk(block, steps);
+    let walked = walk::walk(Profile::Ordinary, block, steps);
     let refusal = walked.refusal;
     let ended = walked.ended;
     WalkAnswer {
@@ -307,9 +326,9 @@ pub extern "C" fn esr_make(class: u64, il: u64, iss2: u64, leaves: &[u64]) -> Nu
 pub extern "C" fn esr_survey(values: &[u64], counts: &mut [u32]) -> SurveyAnswer
     ensures { λ r. ⌜ SurveyAnswered (now (values .entry), now (counts .entry)) (r, now (counts .exit)) ⌝ }
 {
-    let tally = survey::survey(values, counts);
+    let tally = survey::survey(Profile::Ordinary, values, counts);
     let refusal = tally.refusal;
-    let refused = tally.refused;
+    let refused = tally.ordinary();
     SurveyAnswer {
         carried: refusal.carries,
         refused,

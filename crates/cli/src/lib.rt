@@ -9,19 +9,20 @@ use number::Number;
 use number::NumberState;
 use records_reply::put_number_reply;
 use records_reply::put_records_reply;
+use strict::Profile;
 
 // What a program says of each line.
 pub enum Kind {
     // `ok 0xH` or `refused N`.
     Number,
-    // A canonical block.
-    Records,
+    // A canonical block, its value read by a profile (#110).
+    Records(Profile),
 }
 
 fn put_reply(kind: Kind, buf: &mut [u8], at: usize, number: Number) -> usize {
     match kind {
         Kind::Number => return put_number_reply(buf, at, number),
-        Kind::Records => return put_records_reply(buf, at, number),
+        Kind::Records(profile) => return put_records_reply(buf, at, profile, number),
     }
 }
 

@@ -4,4 +4,4 @@ use Rattle.promise.specs.Promise.{Decides}
 use Rattle.entry_reply.specs.Promises.{EntryReply}
 
 pub put-entry-reply-decides : Decides EntryReply
-put-entry-reply-decides (before, at, block) a b p q = same (p .is) (q .is)
+put-entry-reply-decides (before, at, profile, block) a b p q = same (p .is) (q .is)

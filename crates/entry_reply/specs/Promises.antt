@@ -2,7 +2,8 @@
 use Prim.Native.Nat.{ℕ}
 use mathlib.Core.List.{List}
 use Rattle.buffer.specs.Appending.{Appends}
+use Rattle.strict.specs.declared.Profile.{Profile}
 use Rattle.entry_reply.specs.Replies.{entryReply}
 
-abbrev pub EntryReply : List ℕ × ℕ × List ℕ → ℕ × List ℕ → Type 0
-EntryReply (before, at, block) out = Appends (entryReply block) (at, before) out
+abbrev pub EntryReply : List ℕ × ℕ × Profile × List ℕ → ℕ × List ℕ → Type 0
+EntryReply (before, at, profile, block) out = Appends (entryReply profile block) (at, before) out

@@ -7,16 +7,17 @@ use Rattle.listing_reply.specs.Replies.{listed}
 use Rattle.record_lines.specs.Lines.{bodyLine}
 use Rattle.refusals.specs.Refusals.{passed}
 use Rattle.reply_lines.specs.Lines.{numberLine, refusalLine}
+use Rattle.strict.specs.declared.Profile.{Profile}
 use Rattle.texts.specs.Pool.{bytes}
 
--- sequence, ESR, body and the listing of the ESR
-unfoldable pub entryText : ℕ → ℕ → List ℕ → List ℕ
-entryText sequence esr body =
-    numberLine (bytes "sequence ") 10 sequence ++ numberLine (bytes "esr 0x") 16 esr ++ bodyLine body ++ listed esr
+-- sequence, ESR, body and the listing of the ESR, read ordinarily or strictly (#110)
+unfoldable pub entryText : Profile → ℕ → ℕ → List ℕ → List ℕ
+entryText profile sequence esr body =
+    numberLine (bytes "sequence ") 10 sequence ++ numberLine (bytes "esr 0x") 16 esr ++ bodyLine body ++ listed profile esr
 
 -- or the entry's refusal
-unfoldable pub entryReply : List ℕ → List ℕ
-entryReply block =
+unfoldable pub entryReply : Profile → List ℕ → List ℕ
+entryReply profile block =
     cond (passed (entryOf block .refusal))
-    (entryText (entryOf block .sequence) (entryOf block .esr) (bodyOf block))
+    (entryText profile (entryOf block .sequence) (entryOf block .esr) (bodyOf block))
     (refusalLine (entryOf block .refusal))

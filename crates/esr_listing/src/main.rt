@@ -1,6 +1,6 @@
 // A value on each line of standard input: the listing or the refusal of each, named where there are more than one. What is said of a line is
 // promised by `listing_reply`; here lines of any length are read and replies are written, through fixed buffers. A line is one whole number, or with
-// `--remarks` begins with one (#107).
+// `--remarks` begins with one (#107). With a second option, `--strict` or `--nested`, values are read strictly (#110).
 use libc::STDIN_FILENO;
 use line_reader::Rest;
 use line_reader::line_number;
@@ -8,6 +8,14 @@ use line_reader::rest_asked;
 use listing_reply::put_listing_reply;
 use number::Number;
 use number::NumberState;
+use strict::Profile;
+use strict::profile_asked;
+
+// What the options ask for.
+struct Asked {
+    rest: Rest,
+    profile: Profile,
+}
 
 // Where a run stands between two parts of its input: the line that is being read, how many lines have ended, whether more than one line is known of, so that lines
 // are named, and whether the first one has ended and waits to be answered.
@@ -18,23 +26,26 @@ struct Standing {
     held: bool,
 }
 
-// Puts a reply after what is held. Where the buffer ends within it, what is held is written, and the reply is put at the front.
-fn reply(buf: &mut [u8], at: usize, line: u64, number: Number) -> usize {
-    let end = put_listing_reply(buf, at, line, number);
+// Puts the reply to a line after what is held. Where the buffer ends within it, what is held is written, and the reply is put at the front.
+fn reply(asked: Asked, buf: &mut [u8], at: usize, line: u64, state: NumberState) -> usize {
+    let rest = asked.rest;
+    let profile = asked.profile;
+    let number = line_number(state, rest);
+    let end = put_listing_reply(buf, at, profile, line, number);
     if end <= buf.len() {
         return end;
     }
     streams::flush(buf, at);
-    put_listing_reply(buf, 0, line, number)
+    put_listing_reply(buf, 0, profile, line, number)
 }
 
 // Answers the line that is held, now that more follows it.
-fn answer_held(rest: Rest, from: Standing, buf: &mut [u8]) -> Standing {
+fn answer_held(asked: Asked, from: Standing, buf: &mut [u8]) -> Standing {
     if !from.held {
         return from;
     }
     let line = from.line;
-    let at = reply(buf, 0, from.count, line_number(line, rest));
+    let at = reply(asked, buf, 0, from.count, line);
     streams::flush(buf, at);
     Standing {
         line: NumberState::start(),
@@ -53,7 +64,7 @@ fn is_followed(named: bool, part: &[u8], next: usize) -> bool {
 }
 
 // Answers the lines that end in a part of the input, and hands on where the run stands.
-fn answer_part(rest: Rest, from: Standing, part: &[u8], buf: &mut [u8]) -> Standing {
+fn answer_part(asked: Asked, from: Standing, part: &[u8], buf: &mut [u8]) -> Standing {
     let mut line = from.line;
     let mut count = from.count;
     let mut named = from.named;
@@ -69,7 +80,7 @@ fn answer_part(rest: Rest, from: Standing, part: &[u8], buf: &mut [u8]) -> Stand
             named = is_followed(named, part, next);
             held = !named;
             if named {
-                at = reply(buf, at, count, line_number(line, rest));
+                at = reply(asked, buf, at, count, line);
                 line = NumberState::start();
             }
         }
@@ -100,17 +111,17 @@ fn last_number(standing: Standing) -> u64 {
     0
 }
 
-fn answer_last(rest: Rest, standing: Standing, buf: &mut [u8]) {
+fn answer_last(asked: Asked, standing: Standing, buf: &mut [u8]) {
     if !is_left(standing) {
         return;
     }
     let line = standing.line;
-    let end = reply(buf, 0, last_number(standing), line_number(line, rest));
+    let end = reply(asked, buf, 0, last_number(standing), line);
     streams::flush(buf, end);
 }
 
 // A proved loop has to end, and nothing says that an input does: it counts down from a number of reads that no run uses up.
-fn answer_all(rest: Rest, part: &mut [u8], buf: &mut [u8]) {
+fn answer_all(asked: Asked, part: &mut [u8], buf: &mut [u8]) {
     let mut standing = Standing {
         line: NumberState::start(),
         count: 0,
@@ -122,11 +133,11 @@ fn answer_all(rest: Rest, part: &mut [u8], buf: &mut [u8]) {
         let got = libc::read(STDIN_FILENO, part);
         let n = streams::count_read(got, part);
         if n == 0 {
-            answer_last(rest, standing, buf);
+            answer_last(asked, standing, buf);
             return;
         }
-        standing = answer_held(rest, standing, buf);
-        standing = answer_part(rest, standing, &part[0..n], buf);
+        standing = answer_held(asked, standing, buf);
+        standing = answer_part(asked, standing, &part[0..n], buf);
         turns -= 1;
     }
 }
@@ -137,5 +148,7 @@ fn main() {
     let mut option = [0u8; 16];
     let n = os::arg(1, &mut option);
     let rest = rest_asked(&option[0..n]);
-    answer_all(rest, &mut part, &mut buf);
+    let k = os::arg(2, &mut option);
+    let profile = profile_asked(&option[0..k]);
+    answer_all(Asked { rest, profile }, &mut part, &mut buf);
 }

@@ -1,9 +1,10 @@
 // A fault block on standard input: a line for each entry, what was lost between two, the counts, and where and why the walk ended. What is said of it
-// is promised by `walk_reply`.
+// is promised by `walk_reply`. With the option `--strict` or `--nested`, in the second place, values are read strictly (#110).
 ghost use Prim.Native.Nat.{_≤_};
 ghost use lib.ListN.{length};
 ghost use mathlib.Core.Path.{_≡_};
 use libc::STDIN_FILENO;
+use strict::profile_asked;
 use walk_reply::put_walk_reply;
 
 // The longest block and a byte more, which tells one that is longer.
@@ -40,7 +41,10 @@ fn read_block(block: &mut [u8]) -> usize
 fn main() {
     let mut block = room();
     let mut buf = reply_room();
+    let mut option = [0u8; 16];
+    let k = os::arg(2, &mut option);
+    let profile = profile_asked(&option[0..k]);
     let n = read_block(&mut block);
-    let at = put_walk_reply(&mut buf, 0, &block[0..n]);
+    let at = put_walk_reply(&mut buf, 0, profile, &block[0..n]);
     streams::flush(&buf, at);
 }

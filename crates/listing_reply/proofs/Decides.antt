@@ -4,7 +4,7 @@ use Rattle.promise.specs.Promise.{Decides}
 use Rattle.listing_reply.specs.Promises.{ListedPut, ListingReply}
 
 pub put-listed-decides : Decides ListedPut
-put-listed-decides (before, at, esr) a b p q = same (p .is) (q .is)
+put-listed-decides (before, at, profile, esr) a b p q = same (p .is) (q .is)
 
 pub put-listing-reply-decides : Decides ListingReply
-put-listing-reply-decides (before, at, line, number) a b p q = same (p .is) (q .is)
+put-listing-reply-decides (before, at, profile, line, number) a b p q = same (p .is) (q .is)

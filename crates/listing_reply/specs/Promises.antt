@@ -3,11 +3,12 @@ use Prim.Native.Nat.{ℕ}
 use mathlib.Core.List.{List}
 use Rattle.buffer.specs.Appending.{Appends}
 use Rattle.number.specs.declared.Number.{Number}
+use Rattle.strict.specs.declared.Profile.{Profile}
 use Rattle.listing_reply.specs.Replies.{listed, listingReply}
 
-abbrev pub ListedPut : List ℕ × ℕ × ℕ → ℕ × List ℕ → Type 0
-ListedPut (before, at, esr) out = Appends (listed esr) (at, before) out
+abbrev pub ListedPut : List ℕ × ℕ × Profile × ℕ → ℕ × List ℕ → Type 0
+ListedPut (before, at, profile, esr) out = Appends (listed profile esr) (at, before) out
 
 -- line 0 is the only line
-abbrev pub ListingReply : List ℕ × ℕ × ℕ × Number → ℕ × List ℕ → Type 0
-ListingReply (before, at, line, number) out = Appends (listingReply line number) (at, before) out
+abbrev pub ListingReply : List ℕ × ℕ × Profile × ℕ × Number → ℕ × List ℕ → Type 0
+ListingReply (before, at, profile, line, number) out = Appends (listingReply profile line number) (at, before) out

@@ -4,19 +4,20 @@ use mathlib.Core.Bool.{cond}
 use mathlib.Core.List.{List, [], _++_}
 use lib.Dec.{eqb}
 use Rattle.display.specs.Listings.{listing}
-use Rattle.esr.specs.Decode.{answerOf}
 use Rattle.number.specs.declared.Number.{Number}
 use Rattle.records.specs.Sets.{listOf}
 use Rattle.refusals.specs.Refusals.{passed}
 use Rattle.reply_lines.specs.Lines.{numberLine, refusalLine}
+use Rattle.strict.specs.Strict.{answerBy}
+use Rattle.strict.specs.declared.Profile.{Profile}
 use Rattle.texts.specs.Pool.{bytes, bytesAt}
 
--- the listing of a value, or its refusal in words
-unfoldable pub listed : ℕ → List ℕ
-listed esr =
-    cond (passed (answerOf esr .refusal))
-    (listing bytesAt (listOf (answerOf esr .records)))
-    (refusalLine (answerOf esr .refusal))
+-- the listing of a value, read ordinarily or strictly (#110), or its refusal in words
+unfoldable pub listed : Profile → ℕ → List ℕ
+listed profile esr =
+    cond (passed (answerBy profile esr .refusal))
+    (listing bytesAt (listOf (answerBy profile esr .records)))
+    (refusalLine (answerBy profile esr .refusal))
 
 -- The line before it names the value, or where the line holds no number, the line by its number among the lines. The only line has no name; its
 -- number is 0.
@@ -24,5 +25,5 @@ unfoldable pub nameLine : ℕ → Number → List ℕ
 nameLine line n =
     cond (eqb line 0) [] (cond (passed (n .refusal)) (numberLine (bytes "> 0x") 16 (n .value)) (numberLine (bytes "> line ") 10 line))
 
-unfoldable pub listingReply : ℕ → Number → List ℕ
-listingReply line n = nameLine line n ++ cond (passed (n .refusal)) (listed (n .value)) (refusalLine (n .refusal))
+unfoldable pub listingReply : Profile → ℕ → Number → List ℕ
+listingReply profile line n = nameLine line n ++ cond (passed (n .refusal)) (listed profile (n .value)) (refusalLine (n .refusal))

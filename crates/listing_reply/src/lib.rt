@@ -8,12 +8,14 @@ use display::put_listing;
 use number::Number;
 use reply_lines::put_number_line;
 use reply_lines::put_refusal;
+use strict::Profile;
+use strict::decode_by;
 
-// Of a value, whatever it came from.
-pub fn put_listed(buf: &mut [u8], at: usize, esr: u64) -> usize
-    ensures { λ r. ⌜ ListedPut (now (buf .entry), at, esr) (r, now (buf .exit)) ⌝ }
+// Of a value, whatever it came from, read by a profile (#110).
+pub fn put_listed(buf: &mut [u8], at: usize, profile: Profile, esr: u64) -> usize
+    ensures { λ r. ⌜ ListedPut (now (buf .entry), at, profile, esr) (r, now (buf .exit)) ⌝ }
 {
-    let answer = esr::decode(esr);
+    let answer = decode_by(profile, esr);
     let refusal = answer.refusal;
     if refusal.number() != 0 {
         return put_refusal(buf, at, refusal);
@@ -38,13 +40,19 @@ fn put_name(buf: &mut [u8], at: usize, line: u64, number: Number) -> usize
 }
 
 // Line 0 is the only line, which has no name.
-pub fn put_listing_reply(buf: &mut [u8], at: usize, line: u64, number: Number) -> usize
-    ensures { λ r. ⌜ ListingReply (now (buf .entry), at, line, number) (r, now (buf .exit)) ⌝ }
+pub fn put_listing_reply(
+    buf: &mut [u8],
+    at: usize,
+    profile: Profile,
+    line: u64,
+    number: Number,
+) -> usize
+    ensures { λ r. ⌜ ListingReply (now (buf .entry), at, profile, line, number) (r, now (buf .exit)) ⌝ }
 {
     let next = put_name(buf, at, line, number);
     let refusal = number.refusal;
     if refusal.number() != 0 {
         return put_refusal(buf, next, refusal);
     }
-    put_listed(buf, next, number.value)
+    put_listed(buf, next, profile, number.value)
 }

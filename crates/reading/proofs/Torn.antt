@@ -18,6 +18,9 @@ use Rattle.esr.specs.Decode.{refused, classOf, classAnswer, answerOf}
 use Rattle.esr.specs.Promises.{Decoded}
 use Rattle.esr.specs.declared.Answer.{Answer}
 use Rattle.entry.specs.Entries.{entryBytes}
+use Rattle.strict.specs.Strict.{answerBy}
+use Rattle.strict.specs.declared.Profile.{Profile}
+use Rattle.strict.proofs.Laws.{refused-alike}
 use Rattle.walk.proofs.Theorems.{readAs, one-read}
 use Rattle.walk.specs.Walks.{decodedIn, entriesOf}
 use Rattle.reading.specs.Reading.{HasBits}
@@ -47,9 +50,9 @@ torn-lower esr r d o = by (meets esr reserved) refl
     by true e = inr (ap refusalNumber (refused-is r (carrying InvalidEc (classOf esr)) (d ∙ ap (λ (b : Bool). cond b (classAnswer layouts esr) (refused (refusalOf esr reserved))) e ∙ unserved)))
     by false e = inl (ap refusalNumber (refused-is r (refusalOf esr reserved) (d ∙ ap (λ (b : Bool). cond b (classAnswer layouts esr) (refused (refusalOf esr reserved))) e)))
 
--- In a fault block an entry whose value was torn, either half of it, is read and does not decode (#104): it is counted as an entry and not among those that
--- decode, whatever follows.
-module _ (sequence esr : ℕ) (rest : List ℕ) (small : sequence < 256 ^ 2) (fits : esr < 256 ^ 8) (torn : HasBits esr 32 32 0xFFFFFFFF ⊎ HasBits esr 0 32 0xFFFFFFFF) where
+-- In a fault block an entry whose value was torn, either half of it, is read and does not decode, ordinarily or strictly (#104, #110): it is counted as an entry
+-- and not among those that decode, whatever follows.
+module _ (profile : Profile) (sequence esr : ℕ) (rest : List ℕ) (small : sequence < 256 ^ 2) (fits : esr < 256 ^ 8) (torn : HasBits esr 32 32 0xFFFFFFFF ⊎ HasBits esr 0 32 0xFFFFFFFF) where
   torn-refused : HasBits esr 32 32 0xFFFFFFFF ⊎ HasBits esr 0 32 0xFFFFFFFF → refusalNumber (answerOf esr .refusal) ≡ 0 → ⊥
   torn-refused (inl o) z = omega (arith, sym (ap refusalNumber (torn-upper esr (answerOf esr) refl o)) ∙ z)
   torn-refused (inr o) z = by (torn-lower esr (answerOf esr) refl o)
@@ -58,9 +61,16 @@ module _ (sequence esr : ℕ) (rest : List ℕ) (small : sequence < 256 ^ 2) (fi
       by (inl e) = omega (arith, sym e ∙ z)
       by (inr e) = omega (arith, sym e ∙ z)
 
+  abbrev number : ℕ
+  number = refusalNumber (answerBy profile esr .refusal)
+
+  not-decoded : number ≡ 0 → ⊥
+  not-decoded z =
+      torn-refused torn (sym (ap (λ (a : Answer). refusalNumber (a .refusal)) (refused-alike profile esr (ne-eqb (refusalNumber (answerOf esr .refusal)) 0 (torn-refused torn)))) ∙ z)
+
   pub torn-counted : let block : List ℕ = entryBytes sequence esr ++ rest in
-      (length (entriesOf block) ≡ suc (length (entriesOf rest))) × (decodedIn (entriesOf block) ≡ decodedIn (entriesOf rest))
+      (length (entriesOf block) ≡ suc (length (entriesOf rest))) × (decodedIn profile (entriesOf block) ≡ decodedIn profile (entriesOf rest))
   unfolding decodedIn
   torn-counted =
       let all : entriesOf (entryBytes sequence esr ++ rest) ≡ readAs (sequence, esr) ∷ entriesOf rest = one-read sequence esr rest small fits in
-      (ap length all, ap decodedIn all ∙ rw (ne-eqb (refusalNumber (answerOf esr .refusal)) 0 (torn-refused torn)) (zero-add (decodedIn (entriesOf rest))))
+      (ap length all, ap (decodedIn profile) all ∙ rw (ne-eqb number 0 not-decoded) (zero-add (decodedIn profile (entriesOf rest))))

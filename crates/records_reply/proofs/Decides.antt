@@ -7,4 +7,4 @@ pub put-number-reply-decides : Decides NumberReply
 put-number-reply-decides (before, at, number) a b p q = same (p .is) (q .is)
 
 pub put-records-reply-decides : Decides RecordsReply
-put-records-reply-decides (before, at, number) a b p q = same (p .is) (q .is)
+put-records-reply-decides (before, at, profile, number) a b p q = same (p .is) (q .is)

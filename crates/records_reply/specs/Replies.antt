@@ -2,11 +2,12 @@
 use Prim.Native.Nat.{ℕ}
 use mathlib.Core.Bool.{cond}
 use mathlib.Core.List.{List, _++_}
-use Rattle.esr.specs.Decode.{answerOf}
 use Rattle.number.specs.declared.Number.{Number}
 use Rattle.record_lines.specs.Lines.{recordLines}
 use Rattle.refusals.specs.Refusals.{passed, refusalNumber}
 use Rattle.reply_lines.specs.Lines.{carriedLine, numberLine}
+use Rattle.strict.specs.Strict.{answerBy}
+use Rattle.strict.specs.declared.Profile.{Profile}
 use Rattle.texts.specs.Pool.{bytes}
 
 -- `esr number`: ok 0xH, or refused N
@@ -18,11 +19,12 @@ numberReply n =
 
 -- `esr records`: > 0xH, then a line for each record, or the refusal with what it carries; of a line that holds no number the refusal alone, as above
 
-unfoldable pub decoded : ℕ → List ℕ
-decoded esr =
-    cond (passed (answerOf esr .refusal))
-    (recordLines (answerOf esr .records))
-    (carriedLine (answerOf esr .refusal))
+-- of a value, read ordinarily or strictly (#110)
+unfoldable pub decoded : Profile → ℕ → List ℕ
+decoded profile esr =
+    cond (passed (answerBy profile esr .refusal))
+    (recordLines (answerBy profile esr .records))
+    (carriedLine (answerBy profile esr .refusal))
 
-unfoldable pub recordsReply : Number → List ℕ
-recordsReply n = cond (passed (n .refusal)) (numberLine (bytes "> 0x") 16 (n .value) ++ decoded (n .value)) (numberReply n)
+unfoldable pub recordsReply : Profile → Number → List ℕ
+recordsReply profile n = cond (passed (n .refusal)) (numberLine (bytes "> 0x") 16 (n .value) ++ decoded profile (n .value)) (numberReply n)

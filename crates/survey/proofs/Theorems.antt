@@ -4,14 +4,18 @@ use Prim.Native.Nat.{ℕ, zero, suc, _+_, _^_, _≤_, _<_}
 use mathlib.Core.Bool.{Bool, true, false, cond}
 use mathlib.Core.List.{List, [], _∷_, _++_}
 use mathlib.Core.Path.{_≡_, refl, sym, ap, _∙_}
+use native.Mathlib.Nat.{zero-add}
 use native.Mathlib.Omega.{arith}
 use lib.Dec.{eqb}
-use lib.ListN.{length, getD}
+use lib.ListN.{length, getD, take}
 use borrow.Author.Tests.{eqb-true, eqb-false, ne-eqb}
 use Rattle.esr.specs.Decode.{classOf}
-use Rattle.survey.specs.Surveys.{howMany, counts, isOfClass, isRefusedBy, classCounts, refusedCounts}
+use Rattle.refusals.specs.Values.{valueNumbers, valuePlace}
+use Rattle.strict.specs.declared.Profile.{Profile}
+use Rattle.strict.specs.declared.Profile.the-variants.{Ordinary}
+use Rattle.survey.specs.Surveys.{howMany, counts, isOfClass, isRefusedAt, classCounts, refusedCounts}
 use Rattle.survey.proofs.Laws.{one, count-le, counts-at}
-use Rattle.survey.proofs.Classes.{numberOf, class-small, by-number, accepted-class, accepted-number, refused-class, refused-number}
+use Rattle.survey.proofs.Classes.{numberOf, class-small, accepted-class, accepted-number, refused-class, refused-small, refused-place, ordinary-small}
 
 unfoldable pub total : List ℕ → ℕ
 total [] = 0
@@ -34,28 +38,28 @@ module _ (is : ℕ → ℕ → Bool) where
   total-more k (suc n) v vs = let h = total-more (suc k) n v vs in omega arith
 
   module _ (v : ℕ) where
-    ones-nowhere : (k n : ℕ) → ((p : ℕ) → is (k + p) v ≡ false) → ones k n v ≡ 0
+    ones-nowhere : (k n : ℕ) → ((q : ℕ) → k ≤ q → q < k + n → is q v ≡ false) → ones k n v ≡ 0
     unfolding ones
     ones-nowhere k zero e = refl
     ones-nowhere k (suc n) e =
-        let h : one (is k v) ≡ 0 = ap (λ (q : ℕ). one (is q v)) (omega arith) ∙ ap one (e 0) in
-        let m = ones-nowhere (suc k) n (λ p. ap (λ (q : ℕ). is q v) (omega arith) ∙ e (suc p)) in
+        let h : one (is k v) ≡ 0 = ap one (e k (omega arith) (omega arith)) in
+        let m = ones-nowhere (suc k) n (λ q l h. e q (omega arith) (omega arith)) in
         omega arith
 
-    ones-there : (c : ℕ) → ((q : ℕ) → is q v ≡ eqb c q) → (k n : ℕ) → k ≤ c → c < k + n → ones k n v ≡ 1
+    ones-there : (c m : ℕ) → ((q : ℕ) → q < m → is q v ≡ eqb c q) → (k n : ℕ) → k + n ≤ m → k ≤ c → c < k + n → ones k n v ≡ 1
     unfolding ones
-    ones-there c e k zero l h = absurd (omega arith)
-    ones-there c e k (suc n) l h = by (eqb c k) refl (ones-there c e (suc k) n)
+    ones-there c m e k zero w l h = absurd (omega arith)
+    ones-there c m e k (suc n) w l h = by (eqb c k) refl (ones-there c m e (suc k) n (omega arith))
       where
         by : (b : Bool) → eqb c k ≡ b → (suc k ≤ c → c < suc k + n → ones (suc k) n v ≡ 1) → one (is k v) + ones (suc k) n v ≡ 1
         by true f more =
-            let g : one (is k v) ≡ 1 = ap one (e k ∙ f) in
-            let m = ones-nowhere (suc k) n (λ p. e (suc k + p) ∙ ne-eqb c (suc k + p) (λ w. omega (arith, eqb-true c k f))) in
+            let g : one (is k v) ≡ 1 = ap one (e k (omega arith) ∙ f) in
+            let none = ones-nowhere (suc k) n (λ q a b. e q (omega arith) ∙ ne-eqb c q (λ same. omega (arith, eqb-true c k f, same, a))) in
             omega arith
         by false f more =
-            let g : one (is k v) ≡ 0 = ap one (e k ∙ f) in
+            let g : one (is k v) ≡ 0 = ap one (e k (omega arith) ∙ f) in
             let d : c ≡ k → ⊥ = eqb-false c k f in
-            let m = more (omega (arith, d)) (omega arith) in
+            let rest = more (omega (arith, d)) (omega arith) in
             omega arith
 
   -- the counts of a run of two parts are the sums of those of the parts
@@ -75,32 +79,51 @@ unfolding counts sums
 parts-add is k zero xs ys = refl
 parts-add is k (suc n) xs ys = rw (count-parts is k xs ys, parts-add is (suc k) n xs ys) refl
 
-pub class-parts : (xs ys : List ℕ) → classCounts (xs ++ ys) ≡ sums (classCounts xs) (classCounts ys)
-class-parts = parts-add isOfClass 0 64
+pub class-parts : (profile : Profile) (xs ys : List ℕ) → classCounts profile (xs ++ ys) ≡ sums (classCounts profile xs) (classCounts profile ys)
+class-parts profile = parts-add (isOfClass profile) 0 64
 
-pub refused-parts : (xs ys : List ℕ) → refusedCounts (xs ++ ys) ≡ sums (refusedCounts xs) (refusedCounts ys)
-refused-parts = parts-add isRefusedBy 1 7
+pub refused-parts : (profile : Profile) (xs ys : List ℕ) → refusedCounts profile (xs ++ ys) ≡ sums (refusedCounts profile xs) (refusedCounts profile ys)
+refused-parts profile = parts-add (isRefusedAt profile) 0 9
 
--- a value adds one to all counts together
-one-place : (v : ℕ) → ones isOfClass 0 64 v + ones isRefusedBy 1 7 v ≡ 1
-one-place v = by (eqb (numberOf v) 0) refl
-  where
-    by : (b : Bool) → eqb (numberOf v) 0 ≡ b → ones isOfClass 0 64 v + ones isRefusedBy 1 7 v ≡ 1
-    by true f =
-        let h = eqb-true (numberOf v) 0 f in
-        let c = ones-there isOfClass v (classOf v) (accepted-class v h) 0 64 (omega arith) (class-small v) in
-        let r = ones-nowhere isRefusedBy v 1 7 (accepted-number v h) in
-        omega arith
-    by false f =
-        let h = eqb-false (numberOf v) 0 f in
-        let c = ones-nowhere isOfClass v 0 64 (λ p. refused-class v h (0 + p)) in
-        let r = ones-there isRefusedBy v (numberOf v) (by-number v) 1 7 (refused-number v h .0) (omega (arith, refused-number v h .1)) in
-        omega arith
+module _ (profile : Profile) where
+  abbrev isClass : ℕ → ℕ → Bool
+  isClass = isOfClass profile
 
--- all counts together equal the number of values
-pub all-counted : (vs : List ℕ) → total (classCounts vs) + total (refusedCounts vs) ≡ length vs
-all-counted [] = omega (arith, total-none isOfClass 0 64, total-none isRefusedBy 1 7)
-all-counted (v ∷ vs) = omega (arith, total-more isOfClass 0 64 v vs, total-more isRefusedBy 1 7 v vs, one-place v, all-counted vs)
+  abbrev isRefused : ℕ → ℕ → Bool
+  isRefused = isRefusedAt profile
+
+  -- a value adds one to all counts together
+  one-place : (v : ℕ) → ones isClass 0 64 v + ones isRefused 0 9 v ≡ 1
+  one-place v = by (eqb (numberOf profile v) 0) refl
+    where
+      by : (b : Bool) → eqb (numberOf profile v) 0 ≡ b → ones isClass 0 64 v + ones isRefused 0 9 v ≡ 1
+      by true f =
+          let h = eqb-true (numberOf profile v) 0 f in
+          let c = ones-there isClass v (classOf v) 64 (accepted-class profile v h) 0 64 (omega arith) (omega arith) (class-small profile v) in
+          let r = ones-nowhere isRefused v 0 9 (λ q l. accepted-number profile v h q) in
+          omega arith
+      by false f =
+          let h = eqb-false (numberOf profile v) 0 f in
+          let c = ones-nowhere isClass v 0 64 (λ q l. refused-class profile v h q) in
+          let r = ones-there isRefused v (valuePlace (numberOf profile v)) 9 (refused-place profile v h) 0 9 (omega arith) (omega arith) (refused-small profile v h) in
+          omega arith
+
+  -- all counts together equal the number of values
+  pub all-counted : (vs : List ℕ) → total (classCounts profile vs) + total (refusedCounts profile vs) ≡ length vs
+  all-counted [] = omega (arith, total-none isClass 0 64, total-none isRefused 0 9)
+  all-counted (v ∷ vs) = omega (arith, total-more isClass 0 64 v vs, total-more isRefused 0 9 v vs, one-place v, all-counted vs)
+
+-- the ordinary decoder refuses by none but 1 to 7, so that their counts are all
+ordinary-none : (vs : List ℕ) → (howMany (isRefusedAt Ordinary 7) vs ≡ 0) × (howMany (isRefusedAt Ordinary 8) vs ≡ 0)
+unfolding howMany isRefusedAt valueNumbers
+ordinary-none [] = (refl, refl)
+ordinary-none (v ∷ vs) =
+    let more = ordinary-none vs in
+    (rw (ne-eqb (numberOf Ordinary v) 24 (λ e. omega (arith, e, ordinary-small v))) (zero-add (howMany (isRefusedAt Ordinary 7) vs) ∙ more .0), rw (ne-eqb (numberOf Ordinary v) 25 (λ e. omega (arith, e, ordinary-small v))) (zero-add (howMany (isRefusedAt Ordinary 8) vs) ∙ more .1))
+
+pub ordinary-total : (vs : List ℕ) → total (take 7 (refusedCounts Ordinary vs)) ≡ total (refusedCounts Ordinary vs)
+unfolding total counts
+ordinary-total vs = let n = ordinary-none vs in omega (arith, n .0, n .1)
 
 -- no count of a run that is not refused passes 32 bits
 pub counts-fit : (is : ℕ → ℕ → Bool) (k n : ℕ) (vs : List ℕ) → length vs < 2 ^ 32 → (p : ℕ) → p < n → getD (counts is k n vs) p 0 < 2 ^ 32

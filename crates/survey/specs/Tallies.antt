@@ -9,7 +9,7 @@ use lib.ListN.{length, getD}
 abbrev pub Roomy : List ℕ → Type 0
 Roomy t = (p : ℕ) → p < length t → getD t p 0 + 1 < 2 ^ 32
 
--- one value more: each count grows by one where its test, that of its place from k on, holds of the value, and stays otherwise
-pub record Noted (is : ℕ → ℕ → Bool) (k : ℕ) (v : ℕ) (before after : List ℕ) : Type 0 where
+-- one value more: each count grows by one where the test of its place holds of the value, and stays otherwise
+pub record Noted (is : ℕ → ℕ → Bool) (v : ℕ) (before after : List ℕ) : Type 0 where
   pub places : length after ≡ length before
-  pub each : (p : ℕ) → p < length before → getD after p 0 ≡ getD before p 0 + cond (is (k + p) v) 1 0
+  pub each : (p : ℕ) → p < length before → getD after p 0 ≡ getD before p 0 + cond (is p v) 1 0

@@ -1,12 +1,16 @@
 // Counts a run of values: those that are accepted by class, in a lent table, and those that are refused by the number of the refusal (#101).
 ghost use Prim.Native.Nat.{_+_, _^_, _<_};
-ghost use Rattle.survey.specs.Promises.{Surveyed};
-ghost use Rattle.survey.specs.Surveys.{classCounts, isOfClass, isRefusedBy, nothing, refusedCounts};
+ghost use Rattle.survey.specs.Promises.{OrdinaryCounts, Surveyed};
+ghost use Rattle.survey.specs.Surveys.{classCounts, isOfClass, isRefusedAt, nothing, refusedCounts};
 ghost use Rattle.survey.specs.Tallies.{Noted, Roomy};
 ghost use lib.ListN.{getD, length, replicate, set};
 ghost use mathlib.Core.Path.{_≡_};
 use refusals::Reason;
 use refusals::Refusal;
+use refusals::VALUE_NUMBERS;
+use refusals::value_place;
+use strict::Profile;
+use strict::decode_by;
 
 // A table has a place for each class that six bits can tell.
 const CLASSES: usize = 64;
@@ -14,10 +18,20 @@ const CLASSES: usize = 64;
 // No count of fewer values passes 32 bits.
 const LIMIT: usize = 1 << 32;
 
-// How many values each of the refusals 1 to 7 refused, in their order; none where the survey itself is refused.
+// How many values each of the refusals refused that a value can have, in the order of their numbers; none where the survey itself is refused.
 pub struct Tally {
     pub refusal: Refusal,
-    pub refused: [u32; 7],
+    pub refused: [u32; VALUE_NUMBERS],
+}
+
+impl Tally {
+    // The counts of 1 to 7: the ordinary decoder refuses by no other.
+    pub fn ordinary(self) -> [u32; 7]
+        ensures { λ r. ⌜ OrdinaryCounts self r ⌝ }
+    {
+        let all = self.refused;
+        [all[0], all[1], all[2], all[3], all[4], all[5], all[6]]
+    }
 }
 
 fn clear(counts: &mut [u32])
@@ -39,28 +53,33 @@ fn add_one(counts: &mut [u32], place: usize)
 }
 
 // One value more in the tables: in the count of its class, or of the number that it is refused by.
-fn note(esr: u64, counts: &mut [u32], refused: &mut [u32; 7])
-    requires { ⌜ (length (now counts) ≡ 64) × (length (now refused) ≡ 7) × Roomy (now counts) × Roomy (now refused) ⌝ }
-    ensures { λ _. ⌜ Noted isOfClass 0 esr (now (counts .entry)) (now (counts .exit)) × Noted isRefusedBy 1 esr (now (refused .entry)) (now (refused .exit)) ⌝ }
+fn note(profile: Profile, esr: u64, counts: &mut [u32], refused: &mut [u32; VALUE_NUMBERS])
+    requires { ⌜ (length (now counts) ≡ 64) × (length (now refused) ≡ 9) × Roomy (now counts) × Roomy (now refused) ⌝ }
+    ensures { λ _. ⌜ Noted (isOfClass profile) esr (now (counts .entry)) (now (counts .exit)) × Noted (isRefusedAt profile) esr (now (refused .entry)) (now (refused .exit)) ⌝ }
 {
-    let answer = esr::decode(esr);
+    let answer = decode_by(profile, esr);
     let refusal = answer.refusal;
     let number = refusal.number();
     if number == 0 {
         add_one(counts, records::field(esr, 26, 6) as usize);
     } else {
-        add_one(refused, number as usize - 1);
+        add_one(refused, value_place(number));
     }
 }
 
 // All values, in tables that are clear.
-fn note_all(values: &[u64], counts: &mut [u32], refused: &mut [u32; 7])
-    requires { ⌜ (length (now values) < 2 ^ 32) × (now counts ≡ replicate 64 0) × (now refused ≡ replicate 7 0) ⌝ }
-    ensures { λ _. ⌜ (now (counts .exit) ≡ classCounts (now (values .entry))) × (now (refused .exit) ≡ refusedCounts (now (values .entry))) ⌝ }
+fn note_all(
+    profile: Profile,
+    values: &[u64],
+    counts: &mut [u32],
+    refused: &mut [u32; VALUE_NUMBERS],
+)
+    requires { ⌜ (length (now values) < 2 ^ 32) × (now counts ≡ replicate 64 0) × (now refused ≡ replicate 9 0) ⌝ }
+    ensures { λ _. ⌜ (now (counts .exit) ≡ classCounts profile (now (values .entry))) × (now (refused .exit) ≡ refusedCounts profile (now (values .entry))) ⌝ }
 {
     let mut i: usize = 0;
     while i < values.len() {
-        note(values[i], counts, refused);
+        note(profile, values[i], counts, refused);
         i += 1;
     }
 }
@@ -70,12 +89,13 @@ fn refuse(reason: Reason) -> Tally
 {
     Tally {
         refusal: Refusal::carrying(reason, 0),
-        refused: [0; 7],
+        refused: [0; VALUE_NUMBERS],
     }
 }
 
-pub fn survey(values: &[u64], counts: &mut [u32]) -> Tally
-    ensures { λ r. ⌜ Surveyed (now (values .entry), now (counts .entry)) (r, now (counts .exit)) ⌝ }
+// The profile says which values are accepted (#110).
+pub fn survey(profile: Profile, values: &[u64], counts: &mut [u32]) -> Tally
+    ensures { λ r. ⌜ Surveyed (profile, now (values .entry), now (counts .entry)) (r, now (counts .exit)) ⌝ }
 {
     if counts.len() != CLASSES {
         return refuse(Reason::BadTable);
@@ -83,9 +103,9 @@ pub fn survey(values: &[u64], counts: &mut [u32]) -> Tally
     if LIMIT <= values.len() {
         return refuse(Reason::LongRun);
     }
-    let mut refused: [u32; 7] = [0; 7];
+    let mut refused: [u32; VALUE_NUMBERS] = [0; VALUE_NUMBERS];
     clear(counts);
-    note_all(values, counts, &mut refused);
+    note_all(profile, values, counts, &mut refused);
     Tally {
         refusal: Refusal::NONE,
         refused,

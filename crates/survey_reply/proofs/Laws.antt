@@ -18,6 +18,7 @@ use Rattle.number.specs.Numbers.{startsWith}
 use Rattle.number.specs.Rest.{wholeOf}
 use Rattle.number.specs.declared.Number.{Number}
 use Rattle.promise.proofs.Tests.{from, from-at}
+use Rattle.refusals.specs.Values.{valueNumber, valueNumbers}
 use Rattle.survey_reply.specs.Counts.{countFrom, placeFrom, placeOf, readCount, unsaid}
 use Rattle.survey_reply.specs.Replies.{countLine, front, isSaid, label, saidFrom, saidLine}
 use Rattle.survey_reply.specs.Sums.{addCount, addEach, addRun}
@@ -30,34 +31,34 @@ module _ (place : ℕ) where
   unfolding label
   label-class h = rw (lt-ltb place 64 h)
 
-  pub label-refusal : 64 ≤ place → place < 71 → label place ≡ bytes "refused " ++ numeral 10 (place - 64 + 1)
+  pub label-refusal : 64 ≤ place → place < 73 → label place ≡ bytes "refused " ++ numeral 10 (valueNumber (place - 64))
   unfolding label
-  label-refusal l h = rw (le-ltb place 64 l, lt-ltb place 71 h)
+  label-refusal l h = rw (le-ltb place 64 l, lt-ltb place 73 h)
 
-  pub label-none : 71 ≤ place → label place ≡ bytes "no number:"
+  pub label-none : 73 ≤ place → label place ≡ bytes "no number:"
   unfolding label
-  label-none h = let l : 64 ≤ place = omega arith in rw (le-ltb place 64 l, le-ltb place 71 h)
+  label-none h = let l : 64 ≤ place = omega arith in rw (le-ltb place 64 l, le-ltb place 73 h)
 
 -- Which places are said.
 
 module _ (all : Bool) (place count : ℕ) where
-  pub said-last : 71 ≤ place → true ≡ isSaid all place count
+  pub said-last : 73 ≤ place → true ≡ isSaid all place count
   unfolding isSaid
-  said-last h = rw (le-leb 71 place h)
+  said-last h = rw (le-leb 73 place h)
 
-  module _ (h : place < 71) where
+  module _ (h : place < 73) where
     pub unsaid-zero : count ≡ 0 → false ≡ isSaid all place count
     unfolding isSaid
-    unsaid-zero z = rw (lt-leb 71 place h, eq-eqb count 0 z)
+    unsaid-zero z = rw (lt-leb 73 place h, eq-eqb count 0 z)
 
     module _ (n : count ≡ 0 → ⊥) where
       pub said-class : place < 64 → true ≡ isSaid all place count
       unfolding isSaid
-      said-class l = rw (lt-leb 71 place h, ne-eqb count 0 n, lt-ltb place 64 l)
+      said-class l = rw (lt-leb 73 place h, ne-eqb count 0 n, lt-ltb place 64 l)
 
       pub said-refusal : 64 ≤ place → all ≡ isSaid all place count
       unfolding isSaid
-      said-refusal l = rw (lt-leb 71 place h, ne-eqb count 0 n, le-ltb place 64 l)
+      said-refusal l = rw (lt-leb 73 place h, ne-eqb count 0 n, le-ltb place 64 l)
 
   pub line-said : isSaid all place count ≡ true → saidLine all place count ≡ countLine place count
   unfolding saidLine
@@ -119,14 +120,14 @@ begun-long (a ∷ text) (b ∷ line) e = by-first (eqb b a) e (begun-long text l
 abbrev short : ℕ → Bool
 short place = leb (length (front place)) 16
 
-all-short : T (from short 0 72)
-unfolding front label bytes digitsOf unpadded enough
+all-short : T (from short 0 74)
+unfolding front label bytes digitsOf unpadded enough valueNumbers
 all-short = tt
 
-pub front-short : (place : ℕ) → place < 72 → length (front place) ≤ 16
-front-short place h = leb→le (length (front place)) 16 (subst (λ (k : ℕ). T (short k)) (zero-add place) (from-at short 0 72 place all-short h))
+pub front-short : (place : ℕ) → place < 74 → length (front place) ≤ 16
+front-short place h = leb→le (length (front place)) 16 (subst (λ (k : ℕ). T (short k)) (zero-add place) (from-at short 0 74 place all-short h))
 
-module _ (place : ℕ) (h : place < 72) {l : List ℕ} (sixteen : length l ≡ 16) {n : ℕ} {after : List ℕ} (p : Appends (front place) (0, l) (n, after)) where
+module _ (place : ℕ) (h : place < 74) {l : List ℕ} (sixteen : length l ≡ 16) {n : ℕ} {after : List ℕ} (p : Appends (front place) (0, l) (n, after)) where
   pub front-next : n ≡ length (front place)
   front-next = measured p (omega (arith, front-short place h))
 
@@ -139,34 +140,34 @@ module _ (place : ℕ) (h : place < 72) {l : List ℕ} (sixteen : length l ≡ 1
 
 -- The first place whose label begins a line.
 
-module _ (line : List ℕ) (place : ℕ) (h : place < 72) where
-  one-place : 72 - place ≡ suc (72 - (place + 1))
+module _ (line : List ℕ) (place : ℕ) (h : place < 74) where
+  one-place : 74 - place ≡ suc (74 - (place + 1))
   one-place = omega arith
 
-  pub place-here : startsWith (front place) line ≡ true → placeFrom place (72 - place) line ≡ place
+  pub place-here : startsWith (front place) line ≡ true → placeFrom place (74 - place) line ≡ place
   unfolding placeFrom
   place-here e = rw (one-place, e)
 
-  pub place-later : startsWith (front place) line ≡ false → placeFrom place (72 - place) line ≡ placeFrom (place + 1) (72 - (place + 1)) line
+  pub place-later : startsWith (front place) line ≡ false → placeFrom place (74 - place) line ≡ placeFrom (place + 1) (74 - (place + 1)) line
   unfolding placeFrom
   place-later e = rw (one-place, e, add-one place)
 
-pub place-none : (line : List ℕ) (place : ℕ) → 72 ≤ place → placeFrom place (72 - place) line ≡ place
+pub place-none : (line : List ℕ) (place : ℕ) → 74 ≤ place → placeFrom place (74 - place) line ≡ place
 unfolding placeFrom
-place-none line place h = let e : 72 - place ≡ 0 = omega arith in rw e
+place-none line place h = let e : 74 - place ≡ 0 = omega arith in rw e
 
 -- what is read of a line
 module _ (line : List ℕ) where
-  count-read : placeOf line < 72 → readCount line ≡ countFrom (placeOf line) (wholeOf (drop (length (front (placeOf line))) line))
+  count-read : placeOf line < 74 → readCount line ≡ countFrom (placeOf line) (wholeOf (drop (length (front (placeOf line))) line))
   unfolding readCount
-  count-read h = rw (lt-ltb (placeOf line) 72 h)
+  count-read h = rw (lt-ltb (placeOf line) 74 h)
 
-  pub count-unread : 72 ≤ placeOf line → readCount line ≡ unsaid
+  pub count-unread : 74 ≤ placeOf line → readCount line ≡ unsaid
   unfolding readCount
-  count-unread h = rw (le-ltb (placeOf line) 72 h)
+  count-unread h = rw (le-ltb (placeOf line) 74 h)
 
   -- by the place that was found, and the number that was read after its label
-  pub found-read : {place next : ℕ} {number : Number} → place ≡ placeOf line → place < 72 → next ≡ length (front place)
+  pub found-read : {place next : ℕ} {number : Number} → place ≡ placeOf line → place < 74 → next ≡ length (front place)
       → number ≡ wholeOf (take (length line - next) (drop next line)) → countFrom place number ≡ readCount line
   found-read {place} {next} is h e n =
       let all : take (length line - next) (drop next line) ≡ drop next line = take-all (length line - next) (drop next line) (omega (arith, length-drop next line)) in
@@ -228,7 +229,7 @@ each-turn totals place counts i all {first} next is e h =
     rw (each-more totals place counts i h, ← is, e, and-then-and all (first .0) (addEach (first .1) next (drop (i + 1) counts) .0))
 
 -- three sums, one after the other
-pub run-added : (totals counts refused : List ℕ) (none : ℕ) {a b c : Bool × List ℕ} → a ≡ addEach totals 0 counts → b ≡ addEach (a .1) 64 refused → c ≡ addCount (b .1) 71 none
+pub run-added : (totals counts refused : List ℕ) (none : ℕ) {a b c : Bool × List ℕ} → a ≡ addEach totals 0 counts → b ≡ addEach (a .1) 64 refused → c ≡ addCount (b .1) 73 none
     → _≡_ {A = Bool × List ℕ} (a .0 && b .0 && c .0, c .1) (addRun totals counts refused none)
 unfolding addRun
 run-added totals counts refused none p q r = rw (r, q, p)

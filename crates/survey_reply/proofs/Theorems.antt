@@ -14,6 +14,7 @@ use Rattle.digits.specs.Digits.{digitChar, digitsOf, enough, numeral, unpadded}
 use Rattle.number.specs.Digits.{digitOf}
 use Rattle.number.specs.Numbers.{startsWith}
 use Rattle.promise.proofs.Tests.{from, from-at}
+use Rattle.refusals.specs.Values.{placeIn, valueNumbers, valuePlace}
 use Rattle.survey_reply.proofs.Numerals.{numeral-whole}
 use Rattle.survey_reply.specs.Counts.{placeFrom, placeOf, readCount}
 use Rattle.survey_reply.specs.Replies.{countText, front, label, noNumber}
@@ -36,25 +37,28 @@ begun (x ∷ a) (y ∷ line) e = by-first (eqb y x) refl e (begun a line)
     by-first true is u rest = rw (eqb-true y x is, rest u)
     by-first false is u rest = absurd (false≢true u)
 
--- the place that the first bytes of a line tell
+-- the number that stands at an offset of a line, of one digit or two, and the place that the first bytes of a line tell
+abbrev toldAt : ℕ → List ℕ → ℕ
+toldAt i line = cond (eqb (getD line (i + 1) 0) (code " ")) (digitOf (getD line i 0)) (digitOf (getD line i 0) * 10 + digitOf (getD line (i + 1) 0))
+
 abbrev toldBy : List ℕ → ℕ
 toldBy line =
     cond (eqb (getD line 0 0) (code "0")) (digitOf (getD line 2 0) * 16 + digitOf (getD line 3 0))
-    (cond (eqb (getD line 0 0) (code "r")) (63 + digitOf (getD line 8 0))
+    (cond (eqb (getD line 0 0) (code "r")) (64 + valuePlace (toldAt 8 line))
     noNumber)
 
 abbrev tells : List ℕ → ℕ → Bool
 tells w place = eqb (toldBy (front place ++ w)) place
 
-all-tell : (w : List ℕ) → T (from (tells w) 0 72)
-unfolding front label bytes digitsOf digitChar unpadded enough digitOf
+all-tell : (w : List ℕ) → T (from (tells w) 0 74)
+unfolding front label bytes digitsOf digitChar unpadded enough digitOf valueNumbers placeIn
 all-tell w = tt
 
-label-tells : (place : ℕ) (w : List ℕ) → place < 72 → toldBy (front place ++ w) ≡ place
-label-tells place w h = eqb→eq (toldBy (front place ++ w)) place (subst (λ (k : ℕ). T (tells w k)) (zero-add place) (from-at (tells w) 0 72 place (all-tell w) h))
+label-tells : (place : ℕ) (w : List ℕ) → place < 74 → toldBy (front place ++ w) ≡ place
+label-tells place w h = eqb→eq (toldBy (front place ++ w)) place (subst (λ (k : ℕ). T (tells w k)) (zero-add place) (from-at (tells w) 0 74 place (all-tell w) h))
 
 -- so no label begins a line of another place
-no-other : (k place : ℕ) (w : List ℕ) → k < place → place < 72 → startsWith (front k) (front place ++ w) ≡ false
+no-other : (k place : ℕ) (w : List ℕ) → k < place → place < 74 → startsWith (front k) (front place ++ w) ≡ false
 no-other k place w h l = by-test (startsWith (front k) (front place ++ w)) refl
   where
     by-test : (b : Bool) → startsWith (front k) (front place ++ w) ≡ b → b ≡ false
@@ -78,14 +82,14 @@ first-place line place e none k (suc n) h l = by-order (ltb k place) refl (λ m.
         let is : k ≡ place = omega arith in
         rw (is, e)
 
-module _ (place : ℕ) (h : place < 72) (w : List ℕ) where
+module _ (place : ℕ) (h : place < 74) (w : List ℕ) where
   place-found : placeOf (front place ++ w) ≡ place
   place-found =
-      first-place (front place ++ w) place (begins-itself (front place) w) (λ k m. no-other k place w m h) 0 72 (omega arith)
+      first-place (front place ++ w) place (begins-itself (front place) w) (λ k m. no-other k place w m h) 0 74 (omega arith)
       (omega arith)
 
 -- a line that a survey writes of a place is read back as that place and count
-pub read-back : (place count : ℕ) → place < 72 → count < 2 ^ 64 → readCount (countText place count) ≡ record { count = count; place = place; said = true }
+pub read-back : (place count : ℕ) → place < 74 → count < 2 ^ 64 → readCount (countText place count) ≡ record { count = count; place = place; said = true }
 unfolding readCount countText
 read-back place count h small =
-    rw (place-found place h (numeral 10 count), lt-ltb place 72 h, drop-at (front place) (numeral 10 count) (length (front place)) refl, numeral-whole count small)
+    rw (place-found place h (numeral 10 count), lt-ltb place 74 h, drop-at (front place) (numeral 10 count) (length (front place)) refl, numeral-whole count small)

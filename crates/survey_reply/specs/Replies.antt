@@ -1,10 +1,12 @@
--- What a survey says, byte for byte (02's #101). Its totals are a list of 72 places: the 64 classes, the refusals 1 to 7, and the lines that held no number.
+-- What a survey says, byte for byte (02's #101). Its totals are a list of 74 places: the 64 classes, the numbers that a value can be refused
+-- by, and the lines that held no number.
 use Prim.Native.Nat.{ℕ, zero, suc, _+_, _-_}
 use mathlib.Core.Bool.{Bool, cond, not, _&&_, _||_}
 use mathlib.Core.List.{List, [], _++_}
 use lib.Dec.{eqb, leb, ltb}
 use lib.ListN.{getD}
 use Rattle.digits.specs.Digits.{digitsOf, numeral}
+use Rattle.refusals.specs.Values.{valueNumber}
 use Rattle.texts.specs.Pool.{bytes}
 
 -- the first place of the refusals, that of the lines that held no number, and how many places there are
@@ -12,16 +14,16 @@ abbrev pub classes : ℕ
 classes = 64
 
 abbrev pub noNumber : ℕ
-noNumber = 71
+noNumber = 73
 
 abbrev pub places : ℕ
-places = 72
+places = 74
 
 -- what stands before a count: the class with two digits, the number of the refusal, or "no number:"
 unfoldable pub label : ℕ → List ℕ
 label place =
     cond (ltb place classes) (bytes "0x" ++ digitsOf 16 2 place)
-    (cond (ltb place noNumber) (bytes "refused " ++ numeral 10 (place - classes + 1))
+    (cond (ltb place noNumber) (bytes "refused " ++ numeral 10 (valueNumber (place - classes)))
     (bytes "no number:"))
 
 unfoldable pub front : ℕ → List ℕ

@@ -15,13 +15,15 @@ use digits::put_digits;
 use digits::put_number;
 use number::Number;
 use number::parse_number;
+use refusals::VALUE_NUMBERS;
+use refusals::value_number;
 
-// The places of the totals: a class each, then the refusals 1 to 7, then the lines that held no number.
+// The places of the totals: a class each, then the numbers that a value can be refused by, then the lines that held no number.
 pub const CLASSES: usize = 64;
 
-pub const NO_NUMBER: usize = 71;
+pub const NO_NUMBER: usize = CLASSES + VALUE_NUMBERS;
 
-pub const PLACES: usize = 72;
+pub const PLACES: usize = NO_NUMBER + 1;
 
 // No label and space are longer.
 const FRONT_MAX: usize = 16;
@@ -54,7 +56,12 @@ fn put_label(buf: &mut [u8], at: usize, place: usize) -> usize
     }
     if place < NO_NUMBER {
         let next = put_bytes(buf, at, b"refused ");
-        return put_number(buf, next, Base::Decimal, (place - CLASSES + 1) as u64);
+        return put_number(
+            buf,
+            next,
+            Base::Decimal,
+            value_number(place - CLASSES) as u64,
+        );
     }
     put_bytes(buf, at, b"no number:")
 }
@@ -139,7 +146,7 @@ fn begins(line: &[u8], text: &[u8]) -> bool
 
 // Puts the label and the space of each place beside the line, until one begins it. It is at PLACES where none does.
 fn find_label(line: &[u8]) -> Labelled
-    ensures { λ r. ⌜ (r .place ≡ placeOf (now (line .entry))) × (r .place < 72 → (r .next ≡ length (front (r .place))) × (r .next ≤ length (now (line .entry)))) ⌝ }
+    ensures { λ r. ⌜ (r .place ≡ placeOf (now (line .entry))) × (r .place < 74 → (r .next ≡ length (front (r .place))) × (r .next ≤ length (now (line .entry)))) ⌝ }
 {
     let mut text = [0u8; FRONT_MAX];
     let mut place: usize = 0;
@@ -217,7 +224,7 @@ fn add_each(totals: &mut [u64], from: usize, counts: &[u32]) -> bool
 }
 
 // Adds what a survey counted in a run of lines.
-pub fn add_run(totals: &mut [u64], counts: &[u32], refused: [u32; 7], none: u64) -> bool
+pub fn add_run(totals: &mut [u64], counts: &[u32], refused: [u32; VALUE_NUMBERS], none: u64) -> bool
     ensures { λ r. ⌜ RunAdded (now (totals .entry), now (counts .entry), refused, none) (r, now (totals .exit)) ⌝ }
 {
     let classes = add_each(totals, 0, counts);

@@ -4,4 +4,4 @@ use Rattle.promise.specs.Promise.{Decides}
 use Rattle.walk.specs.Promises.{BlockWalked}
 
 pub walk-decides : Decides BlockWalked
-walk-decides (block, before) a b = same
+walk-decides (profile, block, before) a b = same

@@ -19,6 +19,7 @@ use Rattle.promise.proofs.Tests.{both-left, both-right, is-true}
 use Rattle.refusals.specs.Refusals.{bare, carrying, noRefusal, passed, reasonNumber, refusalNumber}
 use Rattle.refusals.specs.declared.Reason.the-variants.{LongBlock, ShortBuffer}
 use Rattle.refusals.specs.declared.Refusal.{Refusal}
+use Rattle.strict.specs.declared.Profile.{Profile}
 use Rattle.walk.specs.Walks.{erased, over, ends, entriesWithin, entriesOf, endRefusal, decodes, decodedIn, skipped, stepsAfter, stepsOf, sequences, stepsIn, walkRefusal, walked, refusing, walking}
 use Rattle.walk.specs.declared.Walked.{Walked}
 
@@ -132,8 +133,8 @@ module _ (m k : ℕ) (t : List ℕ) (all : m ≡ k + length (entriesOf t)) where
   pub count-done : entriesOf t ≡ [] → k ≡ m
   count-done e = let g = rw e at all in omega arith
 
-module _ (m k : ℕ) (t : List ℕ) (all : m ≡ k + decodedIn (entriesOf t)) where
-  pub decoded-more : (d : ℕ) → reasonNumber (judged t) ≡ 0 → d ≡ cond (decodes (entryOf t .esr)) 1 0 → m ≡ (k + d) + decodedIn (entriesOf (drop 13 t))
+module _ (profile : Profile) (m k : ℕ) (t : List ℕ) (all : m ≡ k + decodedIn profile (entriesOf t)) where
+  pub decoded-more : (d : ℕ) → reasonNumber (judged t) ≡ 0 → d ≡ cond (decodes profile (entryOf t .esr)) 1 0 → m ≡ (k + d) + decodedIn profile (entriesOf (drop 13 t))
   unfolding decodedIn
   decoded-more d free e = let g = rw (entries-more t free, ← e) at all in omega arith
 
@@ -210,41 +211,41 @@ module _ (last next : ℕ) (small : last < 65536) (below : next < 65536) where
 
 -- The whole answer, from the tests that lead to it.
 
-pub walk-long : (s before : List ℕ) → 65536 < length s → walking s before ≡ (refusing (bare LongBlock), before)
+pub walk-long : (profile : Profile) (s before : List ℕ) → 65536 < length s → walking profile s before ≡ (refusing (bare LongBlock), before)
 unfolding walking walkRefusal
-walk-long s before h = rw (lt-ltb 65536 (length s) h)
+walk-long profile s before h = rw (lt-ltb 65536 (length s) h)
 
-module _ (s before : List ℕ) (n : ℕ) (within : length s ≤ 65536) (needed : n ≡ length (stepsIn s)) where
-  pub walk-short : length before < n → walking s before ≡ (refusing (carrying ShortBuffer n), before)
+module _ (profile : Profile) (s before : List ℕ) (n : ℕ) (within : length s ≤ 65536) (needed : n ≡ length (stepsIn s)) where
+  pub walk-short : length before < n → walking profile s before ≡ (refusing (carrying ShortBuffer n), before)
   unfolding walking walkRefusal
   walk-short h = rw (le-ltb 65536 (length s) within, ← needed, lt-ltb (length before) n h)
 
-  pub walk-whole : n ≤ length before → walking s before ≡ (walked s, stepsIn s ++ drop (length (stepsIn s)) before)
+  pub walk-whole : n ≤ length before → walking profile s before ≡ (walked profile s, stepsIn s ++ drop (length (stepsIn s)) before)
   unfolding walking walkRefusal
   walk-whole h =
       let room : ltb (length before) (length (stepsIn s)) ≡ false = le-ltb (length before) (length (stepsIn s)) (omega arith) in
       rw (le-ltb 65536 (length s) within, room)
 
 -- a walk that is refused says so by the refusal of the definition, and one that is not is walked whole
-pub refusal-told : (s before : List ℕ) → walking s before .0 .refusal ≡ walkRefusal s (length before)
+pub refusal-told : (profile : Profile) (s before : List ℕ) → walking profile s before .0 .refusal ≡ walkRefusal s (length before)
 unfolding walking walked walkRefusal
-refusal-told s before = by (ltb 65536 (length s)) (ltb (length before) (length (stepsIn s)))
+refusal-told profile s before = by (ltb 65536 (length s)) (ltb (length before) (length (stepsIn s)))
   where
     refusalBy : Bool → Bool → Refusal
     refusalBy long short = cond long (bare LongBlock) (cond short (carrying ShortBuffer (length (stepsIn s))) noRefusal)
 
     answerBy : Refusal → Walked
-    answerBy f = cond {A = Walked × List ℕ} (passed f) (walked s, stepsIn s ++ drop (length (stepsIn s)) before) (refusing f, before) .0
+    answerBy f = cond {A = Walked × List ℕ} (passed f) (walked profile s, stepsIn s ++ drop (length (stepsIn s)) before) (refusing f, before) .0
 
     by : (long short : Bool) → answerBy (refusalBy long short) .refusal ≡ refusalBy long short
     by true short = refl
     by false true = refl
     by false false = refl
 
-pub walk-passed : (s before : List ℕ) → passed (walkRefusal s (length before)) ≡ true
-    → walking s before ≡ (walked s, stepsIn s ++ drop (length (stepsIn s)) before)
+pub walk-passed : (profile : Profile) (s before : List ℕ) → passed (walkRefusal s (length before)) ≡ true
+    → walking profile s before ≡ (walked profile s, stepsIn s ++ drop (length (stepsIn s)) before)
 unfolding walking
-walk-passed s before h = rw h
+walk-passed profile s before h = rw h
 
 -- what stands at the end
 pub over-short : (s : List ℕ) → length s < 2 → eqb (length s) 0 ≡ over s
@@ -270,7 +271,7 @@ pub end-bad : (t : List ℕ) → over t ≡ false → endRefusal t ≡ entryOf t
 unfolding endRefusal
 end-bad t h = rw h
 
-pub walked-is : (s t : List ℕ) (n d : ℕ) (f : Refusal) → n ≡ length (entriesOf s) → d ≡ decodedIn (entriesOf s) → t ≡ drop (13 * n) s → f ≡ endRefusal t
-    → record { entries = n; decoded = d; offset = 13 * n; ended = f; refusal = noRefusal } ≡ walked s
+pub walked-is : (profile : Profile) (s t : List ℕ) (n d : ℕ) (f : Refusal) → n ≡ length (entriesOf s) → d ≡ decodedIn profile (entriesOf s) → t ≡ drop (13 * n) s → f ≡ endRefusal t
+    → record { entries = n; decoded = d; offset = 13 * n; ended = f; refusal = noRefusal } ≡ walked profile s
 unfolding walked
-walked-is s t n d f en ed et ef = rw (ef, et, ed, en)
+walked-is profile s t n d f en ed et ef = rw (ef, et, ed, en)

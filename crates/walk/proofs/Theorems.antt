@@ -17,6 +17,7 @@ use Rattle.refusals.specs.Refusals.{noRefusal, reasonNumber, refusalNumber}
 use Rattle.refusals.specs.declared.Reason.the-variants.{ShortEntry, BadLength, BadVersion}
 use Rattle.walk.proofs.Laws.{by-sound, sound-long, erased-length, entries-none, entries-more, entries-end, entries-fit, steps-fewer, end-over, walk-whole}
 use Rattle.walk.specs.Promises.{BlockWalked}
+use Rattle.strict.specs.declared.Profile.{Profile}
 use Rattle.walk.specs.Walks.{erased, entriesOf, endOffset, endRefusal, skipped, stepsAfter, stepsOf, sequences, stepsIn, walked, blockBytes, sequencesFrom}
 use Rattle.walk.specs.declared.Walked.{Walked}
 
@@ -152,14 +153,14 @@ sequences-read (e ∷ es) = ap (λ (qs : List ℕ). e .0 ∷ qs) (sequences-read
 pub lost-told : (es : List (ℕ × ℕ)) (q m k n : ℕ) → Fit es → k < 65535
     → map (λ (e : ℕ × ℕ). e .0) es ≡ sequencesFrom q (suc m) ++ sequencesFrom (q + 1 + m + k) (suc n)
     → length (blockBytes es) ≤ 65536 → (before : List ℕ) → m + 1 + n ≤ length before
-    → (out : Walked × List ℕ) → BlockWalked (blockBytes es, before) out
+    → (profile : Profile) (out : Walked × List ℕ) → BlockWalked (profile, blockBytes es, before) out
     → out .1 ≡ (replicate m 0 ++ (k ∷ replicate n 0)) ++ drop (m + 1 + n) before
-lost-told es q m k n fit h numbers short before room out promised =
+lost-told es q m k n fit h numbers short before room profile out promised =
     let none : entriesOf [] ≡ [] = entries-end [] 0 (omega arith) in
     let all : entriesOf (blockBytes es) ≡ map readAs es ++ [] = rw (append-nil (blockBytes es)) at (written-read es [] fit ∙ ap (λ (l : List Entry). map readAs es ++ l) none) in
     let steps : stepsIn (blockBytes es) ≡ replicate m 0 ++ (k ∷ replicate n 0) =
     ap (λ (l : List Entry). stepsOf (sequences l)) all ∙ ap stepsOf (sequences-read es ∙ numbers) ∙ lost-steps q m k n h in
     let count : length (stepsIn (blockBytes es)) ≡ m + 1 + n =
     ap length steps ∙ length-append (replicate m 0) (k ∷ replicate n 0) ∙ omega (arith, length-replicate {A = ℕ} m 0, length-replicate {A = ℕ} n 0) in
-    ap (λ (o : Walked × List ℕ). o .1) (promised ∙ walk-whole (blockBytes es) before (m + 1 + n) short (sym count) room)
+    ap (λ (o : Walked × List ℕ). o .1) (promised ∙ walk-whole profile (blockBytes es) before (m + 1 + n) short (sym count) room)
     ∙ ap₂ (λ (a : List ℕ) (i : ℕ). a ++ drop i before) steps count

@@ -3,9 +3,10 @@
 use Prim.Native.Nat.{ℕ}
 use mathlib.Core.List.{List}
 use mathlib.Core.Path.{_≡_}
+use Rattle.strict.specs.declared.Profile.{Profile}
 use Rattle.walk.specs.Walks.{walking}
 use Rattle.walk.specs.declared.Walked.{Walked}
 
--- of any block and any run
-abbrev pub BlockWalked : List ℕ × List ℕ → Walked × List ℕ → Type 0
-BlockWalked (block, before) out = out ≡ walking block before
+-- of any block and any run, its values read by a profile
+abbrev pub BlockWalked : Profile × List ℕ × List ℕ → Walked × List ℕ → Type 0
+BlockWalked (profile, block, before) out = out ≡ walking profile block before

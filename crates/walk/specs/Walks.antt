@@ -6,10 +6,11 @@ use lib.Dec.{eqb, ltb}
 use lib.ListN.{length, getD, drop}
 use Rattle.entry.specs.Entries.{sound, entryOf, entryBytes}
 use Rattle.entry.specs.declared.Entry.{Entry}
-use Rattle.esr.specs.Decode.{answerOf}
 use Rattle.refusals.specs.Refusals.{bare, carrying, noRefusal, passed}
 use Rattle.refusals.specs.declared.Reason.the-variants.{LongBlock, ShortBuffer}
 use Rattle.refusals.specs.declared.Refusal.{Refusal}
+use Rattle.strict.specs.Strict.{answerBy}
+use Rattle.strict.specs.declared.Profile.{Profile}
 use Rattle.walk.specs.declared.Walked.{Walked}
 
 -- "up to 65,536 bytes"; an entry has 13 bytes in all (01)
@@ -45,13 +46,13 @@ endOffset s = entrySize * length (entriesOf s)
 unfoldable pub endRefusal : List ℕ → Refusal
 endRefusal s = cond (over s) noRefusal (entryOf s .refusal)
 
--- "how many of their values decode"
-abbrev pub decodes : ℕ → Bool
-decodes esr = passed (answerOf esr .refusal)
+-- "how many of their values decode": as the caller has them read, ordinarily or strictly (#110)
+abbrev pub decodes : Profile → ℕ → Bool
+decodes profile esr = passed (answerBy profile esr .refusal)
 
-unfoldable pub decodedIn : List Entry → ℕ
-decodedIn [] = 0
-decodedIn (e ∷ es) = cond (decodes (e .esr)) 1 0 + decodedIn es
+unfoldable pub decodedIn : Profile → List Entry → ℕ
+decodedIn profile [] = 0
+decodedIn profile (e ∷ es) = cond (decodes profile (e .esr)) 1 0 + decodedIn profile es
 
 -- "how many were skipped: the wrapping difference less one, or 65,535 for an equal number twice in a row"
 abbrev pub wrappingDifference : ℕ → ℕ → ℕ
@@ -83,11 +84,11 @@ walkRefusal s places =
     noRefusal)
 
 -- the answer; on a refusal its numbers are 0
-unfoldable pub walked : List ℕ → Walked
-walked s =
+unfoldable pub walked : Profile → List ℕ → Walked
+walked profile s =
     record {
       entries = length (entriesOf s);
-      decoded = decodedIn (entriesOf s);
+      decoded = decodedIn profile (entriesOf s);
       offset = endOffset s;
       ended = endRefusal (drop (endOffset s) s);
       refusal = noRefusal;
@@ -97,10 +98,10 @@ abbrev pub refusing : Refusal → Walked
 refusing f = record { entries = 0; decoded = 0; offset = 0; ended = noRefusal; refusal = f }
 
 -- the answer and the run afterwards, of a block and the run before: "Places past the steps stay", and all of them on a refusal
-unfoldable pub walking : List ℕ → List ℕ → Walked × List ℕ
-walking s before =
+unfoldable pub walking : Profile → List ℕ → List ℕ → Walked × List ℕ
+walking profile s before =
     cond (passed (walkRefusal s (length before)))
-    (walked s, stepsIn s ++ drop (length (stepsIn s)) before)
+    (walked profile s, stepsIn s ++ drop (length (stepsIn s)) before)
     (refusing (walkRefusal s (length before)), before)
 
 -- Entries written one after another, each from its sequence and its ESR.

@@ -10,6 +10,8 @@ ghost use mathlib.Core.Path.{_≡_};
 use entry::read_entry;
 use refusals::Reason;
 use refusals::Refusal;
+use strict::Profile;
+use strict::decode_by;
 
 // The longest block (#104).
 const LIMIT: usize = 65536;
@@ -42,10 +44,10 @@ fn skipped_to(last: u16, next: u16) -> u16
 }
 
 // What one value adds to the count of those that decode.
-fn decoded_of(esr: u64) -> usize
-    ensures { λ r. ⌜ r ≡ cond (decodes esr) 1 0 ⌝ }
+fn decoded_of(profile: Profile, esr: u64) -> usize
+    ensures { λ r. ⌜ r ≡ cond (decodes profile esr) 1 0 ⌝ }
 {
-    let answer = esr::decode(esr);
+    let answer = decode_by(profile, esr);
     let refusal = answer.refusal;
     if refusal.number() != 0 {
         return 0;
@@ -54,8 +56,8 @@ fn decoded_of(esr: u64) -> usize
 }
 
 // The entry reader refuses what stands where the walk ends, erased flash too, so that it alone is asked.
-fn count(block: &[u8]) -> Counts
-    ensures { λ r. ⌜ (r .entries ≡ length (entriesOf (now (block .entry)))) × (r .decoded ≡ decodedIn (entriesOf (now (block .entry)))) ⌝ }
+fn count(profile: Profile, block: &[u8]) -> Counts
+    ensures { λ r. ⌜ (r .entries ≡ length (entriesOf (now (block .entry)))) × (r .decoded ≡ decodedIn profile (entriesOf (now (block .entry)))) ⌝ }
 {
     let mut entries: usize = 0;
     let mut decoded: usize = 0;
@@ -67,7 +69,7 @@ fn count(block: &[u8]) -> Counts
             return Counts { entries, decoded };
         }
         entries += 1;
-        decoded += decoded_of(entry.esr);
+        decoded += decoded_of(profile, entry.esr);
         at += ENTRY_SIZE;
     }
     Counts { entries, decoded }
@@ -141,14 +143,14 @@ fn refuse(refusal: Refusal) -> Walked
     }
 }
 
-// Counts first, so that a refusal leaves the run as it was.
-pub fn walk(block: &[u8], steps: &mut [u16]) -> Walked
-    ensures { λ r. ⌜ BlockWalked (now (block .entry), now (steps .entry)) (r, now (steps .exit)) ⌝ }
+// Counts first, so that a refusal leaves the run as it was. The profile says which values decode (#110); an entry is read alike by each.
+pub fn walk(profile: Profile, block: &[u8], steps: &mut [u16]) -> Walked
+    ensures { λ r. ⌜ BlockWalked (profile, now (block .entry), now (steps .entry)) (r, now (steps .exit)) ⌝ }
 {
     if LIMIT < block.len() {
         return refuse(Refusal::carrying(Reason::LongBlock, 0));
     }
-    let counts = count(block);
+    let counts = count(profile, block);
     let needed = steps_of(counts.entries);
     if steps.len() < needed {
         return refuse(Refusal::carrying(Reason::ShortBuffer, needed as u64));

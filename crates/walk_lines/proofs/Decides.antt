@@ -4,7 +4,7 @@ use Rattle.promise.specs.Promise.{Decides}
 use Rattle.walk_lines.specs.Promises.{CountLine, EndLine, EntryLine, StepLine}
 
 pub put-entry-line-decides : Decides EntryLine
-put-entry-line-decides (before, at, offset, entry) a b p q = same (p .is) (q .is)
+put-entry-line-decides (before, at, profile, offset, entry) a b p q = same (p .is) (q .is)
 
 pub put-step-line-decides : Decides StepLine
 put-step-line-decides (before, at, skipped) a b p q = same (p .is) (q .is)

@@ -5,14 +5,16 @@ use mathlib.Core.List.{List, [], _++_}
 use lib.Dec.{eqb}
 use Rattle.digits.specs.Digits.{numeral}
 use Rattle.entry.specs.declared.Entry.{Entry}
-use Rattle.esr.specs.Decode.{answerOf, classOf}
+use Rattle.esr.specs.Decode.{classOf}
 use Rattle.refusals.specs.Refusals.{passed}
 use Rattle.refusals.specs.declared.Refusal.{Refusal}
 use Rattle.reply_lines.specs.Lines.{numberLine, refusedBy, why}
+use Rattle.strict.specs.Strict.{answerBy}
+use Rattle.strict.specs.declared.Profile.{Profile}
 use Rattle.texts.specs.Pool.{bytes, descriptionOf}
 use Rattle.texts.specs.Rules.{className}
 
--- ok, or refused N, of the entry's value; then where it stands and its numbers; then the class text, or why
+-- ok, or refused N, of the entry's value, read ordinarily or strictly (#110); then where it stands and its numbers; then the class text, or why
 unfoldable pub verdict : Refusal → List ℕ
 verdict f = cond (passed f) (bytes "ok") (refusedBy f)
 
@@ -25,9 +27,9 @@ numbersPart e = bytes ", sequence " ++ numeral 10 (e .sequence) ++ bytes ", esr 
 unfoldable pub meaning : Refusal → ℕ → List ℕ
 meaning f esr = cond (passed f) (bytes (descriptionOf (className .number) (classOf esr))) (why f)
 
-unfoldable pub entryLine : ℕ → Entry → List ℕ
-entryLine offset e =
-    verdict (answerOf (e .esr) .refusal) ++ place offset ++ numbersPart e ++ meaning (answerOf (e .esr) .refusal) (e .esr) ++ bytes "\n"
+unfoldable pub entryLine : Profile → ℕ → Entry → List ℕ
+entryLine profile offset e =
+    verdict (answerBy profile (e .esr) .refusal) ++ place offset ++ numbersPart e ++ meaning (answerBy profile (e .esr) .refusal) (e .esr) ++ bytes "\n"
 
 -- between two entries: how many were lost, or that the number stood twice; nothing where none was skipped
 unfoldable pub stepLine : ℕ → List ℕ

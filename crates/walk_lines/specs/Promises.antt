@@ -4,10 +4,11 @@ use mathlib.Core.List.{List}
 use Rattle.buffer.specs.Appending.{Appends}
 use Rattle.entry.specs.declared.Entry.{Entry}
 use Rattle.refusals.specs.declared.Refusal.{Refusal}
+use Rattle.strict.specs.declared.Profile.{Profile}
 use Rattle.walk_lines.specs.Lines.{countLine, endLine, entryLine, stepLine}
 
-abbrev pub EntryLine : List ℕ × ℕ × ℕ × Entry → ℕ × List ℕ → Type 0
-EntryLine (before, at, offset, entry) out = Appends (entryLine offset entry) (at, before) out
+abbrev pub EntryLine : List ℕ × ℕ × Profile × ℕ × Entry → ℕ × List ℕ → Type 0
+EntryLine (before, at, profile, offset, entry) out = Appends (entryLine profile offset entry) (at, before) out
 
 abbrev pub StepLine : List ℕ × ℕ × ℕ → ℕ × List ℕ → Type 0
 StepLine (before, at, skipped) out = Appends (stepLine skipped) (at, before) out

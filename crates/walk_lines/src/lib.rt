@@ -12,6 +12,8 @@ use refusals::Refusal;
 use reply_lines::put_number_line;
 use reply_lines::put_refused;
 use reply_lines::put_why;
+use strict::Profile;
+use strict::decode_by;
 use texts::rules;
 
 // What is told of a number that stood twice (#104).
@@ -56,10 +58,17 @@ fn put_meaning(buf: &mut [u8], at: usize, refusal: Refusal, esr: u64) -> usize
     put_text(buf, at, &pool, &starts, code)
 }
 
-pub fn put_entry_line(buf: &mut [u8], at: usize, offset: usize, entry: Entry) -> usize
-    ensures { λ r. ⌜ EntryLine (now (buf .entry), at, offset, entry) (r, now (buf .exit)) ⌝ }
+// The entry's value is read by a profile (#110).
+pub fn put_entry_line(
+    buf: &mut [u8],
+    at: usize,
+    profile: Profile,
+    offset: usize,
+    entry: Entry,
+) -> usize
+    ensures { λ r. ⌜ EntryLine (now (buf .entry), at, profile, offset, entry) (r, now (buf .exit)) ⌝ }
 {
-    let answer = esr::decode(entry.esr);
+    let answer = decode_by(profile, entry.esr);
     let refusal = answer.refusal;
     let mut next = put_verdict(buf, at, refusal);
     next = put_place(buf, next, offset);

@@ -4,4 +4,4 @@ use Rattle.promise.specs.Promise.{Decides}
 use Rattle.walk_reply.specs.Promises.{WalkReply}
 
 pub put-walk-reply-decides : Decides WalkReply
-put-walk-reply-decides (before, at, block) a b p q = same (p .is) (q .is)
+put-walk-reply-decides (before, at, profile, block) a b p q = same (p .is) (q .is)

@@ -9,6 +9,7 @@ use Rattle.entry.specs.declared.Entry.{Entry}
 use Rattle.refusals.proofs.Cases.{passed-yes, passed-no}
 use Rattle.refusals.specs.Refusals.{passed, refusalNumber}
 use Rattle.reply_lines.specs.Lines.{refusalLine}
+use Rattle.strict.specs.declared.Profile.{Profile}
 use Rattle.walk.proofs.Laws.{refusal-told, walk-passed}
 use Rattle.walk.specs.Walks.{entriesOf, stepsIn, walkRefusal, walked, walking}
 use Rattle.walk.specs.declared.Walked.{Walked}
@@ -28,38 +29,39 @@ behind [] z h i = h i
 behind (x ∷ a) z h zero = refl
 behind (x ∷ a) z h (suc i) = behind a z h i
 
-pub same-lines : (a : List ℕ) (n : ℕ) (es : List Entry) → inOrder (linesAt (a ++ drop (length a) (replicate n 0))) es ≡ inOrder (linesAt a) es
+pub same-lines : (profile : Profile) (a : List ℕ) (n : ℕ) (es : List Entry)
+    → inOrder (linesAt profile (a ++ drop (length a) (replicate n 0))) es ≡ inOrder (linesAt profile a) es
 unfolding linesAt
-same-lines a n es =
+same-lines profile a n es =
     each-same (λ (i : ℕ) (e : Entry). rw (behind a (drop (length a) (replicate n 0)) (zeros n (length a)) i)) 0 es
 
 -- The whole reply, of what a walk into an array of zeros answers and leaves.
 
-module _ (s after : List ℕ) (w : Walked) (is : (w, after) ≡ walking s (replicate stepRoom 0)) where
+module _ (profile : Profile) (s after : List ℕ) (w : Walked) (is : (w, after) ≡ walking profile s (replicate stepRoom 0)) where
   pub told : w .refusal ≡ walkRefusal s stepRoom
   told =
       ap (λ (o : Walked × List ℕ). o .0 .refusal) is
-      ∙ refusal-told s (replicate stepRoom 0)
+      ∙ refusal-told profile s (replicate stepRoom 0)
       ∙ ap (walkRefusal s) (length-replicate {A = ℕ} stepRoom 0)
 
   module _ (n : ℕ) (number : n ≡ refusalNumber (w .refusal)) where
-    pub reply-refused : (n ≡ 0 → ⊥) → walkReply s ≡ refusalLine (w .refusal)
+    pub reply-refused : (n ≡ 0 → ⊥) → walkReply profile s ≡ refusalLine (w .refusal)
     unfolding walkReply
     reply-refused h = rw (← told, passed-no (w .refusal) number h)
 
     module _ (free : n ≡ 0) where
-      whole : _≡_ {A = Walked × List ℕ} (w, after) (walked s, stepsIn s ++ drop (length (stepsIn s)) (replicate stepRoom 0))
+      whole : _≡_ {A = Walked × List ℕ} (w, after) (walked profile s, stepsIn s ++ drop (length (stepsIn s)) (replicate stepRoom 0))
       whole =
           is
-          ∙ walk-passed s (replicate stepRoom 0)
+          ∙ walk-passed profile s (replicate stepRoom 0)
           (ap (λ (k : ℕ). passed (walkRefusal s k)) (length-replicate {A = ℕ} stepRoom 0) ∙ ap passed (sym told) ∙ passed-yes (w .refusal) number free)
 
       pub entries-told : w .entries ≡ length (entriesOf s)
       unfolding walked
       entries-told = ap (λ (o : Walked × List ℕ). o .0 .entries) whole
 
-      pub reply-whole : inOrder (linesAt after) (entriesOf s) ++ countLine (w .entries) (w .decoded) ++ endLine (length s) (w .offset) (w .ended) ≡ walkReply s
+      pub reply-whole : inOrder (linesAt profile after) (entriesOf s) ++ countLine (w .entries) (w .decoded) ++ endLine (length s) (w .offset) (w .ended) ≡ walkReply profile s
       unfolding walked walkReply
       reply-whole =
-          ap (λ (o : Walked × List ℕ). inOrder (linesAt (o .1)) (entriesOf s) ++ countLine (o .0 .entries) (o .0 .decoded) ++ endLine (length s) (o .0 .offset) (o .0 .ended)) whole
-          ∙ rw (same-lines (stepsIn s) stepRoom (entriesOf s), ← told, passed-yes (w .refusal) number free)
+          ap (λ (o : Walked × List ℕ). inOrder (linesAt profile (o .1)) (entriesOf s) ++ countLine (o .0 .entries) (o .0 .decoded) ++ endLine (length s) (o .0 .offset) (o .0 .ended)) whole
+          ∙ rw (same-lines profile (stepsIn s) stepRoom (entriesOf s), ← told, passed-yes (w .refusal) number free)

@@ -9,6 +9,7 @@ ghost use lib.ListN.{getD, length, replicate};
 ghost use mathlib.Core.Path.{_≡_};
 use entry::read_entry;
 use reply_lines::put_refusal;
+use strict::Profile;
 use walk::ENTRY_SIZE;
 use walk_lines::put_count_line;
 use walk_lines::put_end_line;
@@ -28,16 +29,23 @@ fn step_at(steps: &[u16], i: usize) -> u16
     steps[i]
 }
 
-fn put_entries(buf: &mut [u8], at: usize, block: &[u8], steps: &[u16], count: usize) -> usize
+fn put_entries(
+    buf: &mut [u8],
+    at: usize,
+    profile: Profile,
+    block: &[u8],
+    steps: &[u16],
+    count: usize,
+) -> usize
     requires { ⌜ count ≡ length (entriesOf (now block)) ⌝ }
-    ensures { λ r. ⌜ Appends (inOrder (linesAt (now (steps .entry))) (entriesOf (now (block .entry)))) (at, now (buf .entry)) (r, now (buf .exit)) ⌝ }
+    ensures { λ r. ⌜ Appends (inOrder (linesAt profile (now (steps .entry))) (entriesOf (now (block .entry)))) (at, now (buf .entry)) (r, now (buf .exit)) ⌝ }
 {
     let mut next = at;
     let mut i: usize = 0;
     while i < count {
         let offset = ENTRY_SIZE * i;
         let entry = read_entry(&block[offset..]);
-        next = put_entry_line(buf, next, offset, entry);
+        next = put_entry_line(buf, next, profile, offset, entry);
         next = put_step_line(buf, next, step_at(steps, i));
         i += 1;
     }
@@ -51,16 +59,17 @@ fn no_steps() -> [u16; STEPS]
     [0; STEPS]
 }
 
-pub fn put_walk_reply(buf: &mut [u8], at: usize, block: &[u8]) -> usize
-    ensures { λ r. ⌜ WalkReply (now (buf .entry), at, now (block .entry)) (r, now (buf .exit)) ⌝ }
+// The values are read by a profile (#110).
+pub fn put_walk_reply(buf: &mut [u8], at: usize, profile: Profile, block: &[u8]) -> usize
+    ensures { λ r. ⌜ WalkReply (now (buf .entry), at, profile, now (block .entry)) (r, now (buf .exit)) ⌝ }
 {
     let mut steps = no_steps();
-    let walked = walk::walk(block, &mut steps);
+    let walked = walk::walk(profile, block, &mut steps);
     let refusal = walked.refusal;
     if refusal.number() != 0 {
         return put_refusal(buf, at, refusal);
     }
-    let mut next = put_entries(buf, at, block, &steps, walked.entries);
+    let mut next = put_entries(buf, at, profile, block, &steps, walked.entries);
     next = put_count_line(buf, next, walked.entries, walked.decoded);
     put_end_line(buf, next, block.len(), walked.offset, walked.ended)
 }

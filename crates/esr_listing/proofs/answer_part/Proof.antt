@@ -9,14 +9,14 @@ use Rattle.esr_listing.proofs.answer_part.Statement.{statement}
 use Rattle.esr_listing.proofs.answer_part.Tie as tie
 
 abbrev Inv-loop : tie.InvT-loop
-Inv-loop rest part buf₀ line₀ count₀ named₀ held₀ next₀ at₀ buf line count named held next at = length buf ≡ length buf₀
+Inv-loop asked part buf₀ line₀ count₀ named₀ held₀ next₀ at₀ buf line count named held next at = length buf ≡ length buf₀
 
 abbrev μ-loop : tie.MeasureT-loop
-μ-loop rest part buf₀ line₀ count₀ named₀ held₀ next₀ at₀ buf line count named held next at = length part - next
+μ-loop asked part buf₀ line₀ count₀ named₀ held₀ next₀ at₀ buf line count named held next at = length part - next
 
 loop-less : tie.Need-loop-less Inv-loop μ-loop
 loop-less c =
-    let t = c .before .before .before .before .before .before .before .before .before .before .before in
+    let t = c .before .before .before .before .before .before .before .before .before .before in
     let l = t .before .before in
     omega (arith, part-moved (l .loop .line) (l .before .before .before .before .args .part .now) (l .loop .next) (t .take-line .ensures) (search needs))
 
@@ -39,7 +39,6 @@ answer-part-spec =
     Inv-loop
     μ-loop
     (λ c. search needs)
-    (λ c κs. search needs)
     (λ c κs. search needs)
     (λ c κs. search needs)
     (λ c κs. search needs)

@@ -13,7 +13,7 @@ returns c =
     let p = c .before .before in
     let t = p .before .before in
     let n = t .before in
-    let d = n .before .before .decode in
+    let d = n .before .before .decode-by in
     rw (← (d .ensures), passed-no (d .result .refusal) (n .number .ensures) (t .if1 .taken)) (p .put-refusal .ensures)
 
 returns-2 : tie.Need-returns-2
@@ -23,7 +23,7 @@ returns-2 c =
     let q = p .before .before .before .before in
     let t = q .before .before in
     let n = t .before in
-    let d = n .before .before .decode in
+    let d = n .before .before .decode-by in
     let own = listing-lent (record { whole = q .before .pool-bytes .ensures; each = q .text-starts .ensures }) (listOf (d .result .records)) in
     rw (← (d .ensures), passed-yes (d .result .refusal) (n .number .ensures) (t .if1 .left), ← own) (p .put-listing .ensures)
 

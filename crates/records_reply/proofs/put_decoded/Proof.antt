@@ -11,7 +11,7 @@ returns c =
     let p = c .before .before in
     let t = p .before .before in
     let n = t .before in
-    let d = n .before .before .decode in
+    let d = n .before .before .decode-by in
     rw (← (d .ensures), passed-no (d .result .refusal) (n .number .ensures) (t .if1 .taken)) (p .put-carried .ensures)
 
 returns-2 : tie.Need-returns-2
@@ -20,7 +20,7 @@ returns-2 c =
     let p = c .before .before in
     let t = p .before .before in
     let n = t .before in
-    let d = n .before .before .decode in
+    let d = n .before .before .decode-by in
     rw (← (d .ensures), passed-yes (d .result .refusal) (n .number .ensures) (t .if1 .left)) (p .put-record-lines .ensures)
 
 pub put-decoded-spec : {M : Type 1} → statement M

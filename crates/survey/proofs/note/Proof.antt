@@ -1,98 +1,89 @@
 -- A value that is accepted adds one to the count of its class, another to that of the number that refuses it; the other table stays.
 use borrow.Author.Needs.{needs}
-use Prim.Native.Nat.{ℕ, _+_, _-_, _≤_, _<_}
-use mathlib.Core.List.{List}
-use mathlib.Core.Path.{_≡_, refl, sym, ap, _∙_}
+use Prim.Native.Nat.{ℕ, _<_}
+use mathlib.Core.Path.{_≡_, sym, ap, subst, _∙_}
 use native.Mathlib.Omega.{arith}
-use lib.ListN.{length, getD, set}
+use lib.Dec.{eqb}
+use lib.ListN.{length}
 use Rattle.refusals.specs.Refusals.{refusalNumber}
-use Rattle.esr.specs.Decode.{answerOf, classOf}
+use Rattle.refusals.specs.Values.{valuePlace}
+use Rattle.esr.specs.Decode.{classOf}
 use Rattle.esr.specs.declared.Answer.{Answer}
-use Rattle.survey.specs.Surveys.{isOfClass, isRefusedBy}
+use Rattle.strict.specs.Strict.{answerBy}
+use Rattle.strict.specs.declared.Profile.{Profile}
+use Rattle.survey.specs.Surveys.{isOfClass, isRefusedAt}
 use Rattle.survey.proofs.Laws.{noted-there, noted-nowhere}
-use Rattle.survey.proofs.Classes.{numberOf, class-small, by-number, accepted-class, accepted-number, refused-class, refused-number}
+use Rattle.survey.proofs.Classes.{numberOf, class-small, accepted-class, accepted-number, refused-class, refused-small, refused-place}
 use Rattle.survey.proofs.note.Statement.{statement}
 use Rattle.survey.proofs.note.Tie as tie
-use Rattle.survey.proofs.note.Reads as reads
-use Rattle.survey.proofs.note.Lts as lts
-use Rattle.esr.proofs.decode.Reads as decode-reads
-use Rattle.records.proofs.field.Reads as field-reads
-use Rattle.refusals.proofs.Refusal.number.Reads as number-reads
-use Rattle.survey.proofs.add_one.Reads as add-one-reads
 
 -- the number that was asked for is that of the value's answer
-told : (esr n : ℕ) (a : Answer) → a ≡ answerOf esr → n ≡ refusalNumber (a .refusal) → n ≡ numberOf esr
-told esr n a d e = e ∙ ap (λ (x : Answer). refusalNumber (x .refusal)) d
-
-decode-requires : tie.Need-decode-requires
-decode-requires c κs = search needs
-
-number-requires : tie.Need-number-requires
-number-requires c κs = search needs
-
-field-requires : tie.Need-field-requires
-field-requires c κs = search needs
+told : (profile : Profile) (esr n : ℕ) (a : Answer) → a ≡ answerBy profile esr → n ≡ refusalNumber (a .refusal) → n ≡ numberOf profile esr
+told profile esr n a d e = e ∙ ap (λ (x : Answer). refusalNumber (x .refusal)) d
 
 add-one-requires : tie.Need-add-one-requires
 add-one-requires c κs =
     let s = c .before .before .before .before .before .before .before in
-    let h : c .field .result < length (s .args .counts .now) = omega (arith, class-small (s .args .esr), c .field .ensures, s .pre .0) in
+    let h : c .field .result < length (s .args .counts .now) = omega (arith, class-small (s .args .profile) (s .args .esr), c .field .ensures, s .pre .0) in
     (h, s .pre .2 (c .field .result) h)
 
-cast-add-one : tie.Need-cast-add-one
-cast-add-one c = search needs
-
-sub-add-one : tie.Need-sub-add-one
-sub-add-one c = search needs
+-- where a value is refused: at the place of its number
+refused : (c : tie.After-value-place)
+    → (numberOf (c .before .before .before .before .before .before .before .args .profile) (c .before .before .before .before .before .before .before .args .esr) ≡ 0 → ⊥)
+    × (c .value-place .result ≡ valuePlace (numberOf (c .before .before .before .before .before .before .before .args .profile) (c .before .before .before .before .before .before .before .args .esr)))
+refused c =
+    let i = c .before .before in
+    let n = i .before .number in
+    let s = i .before .before .before .before .before in
+    let e = told (s .args .profile) (s .args .esr) _ _ (i .before .before .before .decode-by .ensures) (n .ensures) in
+    (λ z. i .if1 .left (e ∙ z), c .value-place .ensures ∙ ap valuePlace e)
 
 add-one-requires-2 : tie.Need-add-one-requires-2
 add-one-requires-2 c κs =
-    let s = c .before .before .before .before .before .before in
-    let n = c .before .before .number in
-    let e = told (s .args .esr) _ _ (c .before .before .before .before .decode .ensures) (n .ensures) in
-    let r = refused-number (s .args .esr) (λ z. omega (arith, c .before .if1 .left, e, z)) in
-    (omega (arith, e, r .0, r .1, s .pre .1), s .pre .3 _ (omega (arith, e, r .0, r .1, s .pre .1)))
-
-same-length : tie.Need-same-length
-same-length c = search needs
+    let s = c .before .before .before .before .before .before .before in
+    let r = refused c in
+    let h : c .value-place .result < length (s .args .refused .now) = omega (arith, r .1, refused-small (s .args .profile) (s .args .esr) (r .0), s .pre .1) in
+    (h, s .pre .3 (c .value-place .result) h)
 
 returns : tie.Need-returns
 returns c =
     let i = c .before .before .before .before .before in
     let n = i .before .number in
     let s = i .before .before .before .before .before in
-    let h : numberOf (s .args .esr) ≡ 0 = omega (arith, told (s .args .esr) _ _ (i .before .before .before .decode .ensures) (n .ensures), i .if1 .taken) in
+    let p = s .args .profile in
+    let v = s .args .esr in
+    let h : numberOf p v ≡ 0 = sym (told p v _ _ (i .before .before .before .decode-by .ensures) (n .ensures)) ∙ i .if1 .taken in
     let f = c .before .before .before .field in
     let a = c .before .before .add-one in (
-      noted-there isOfClass 0 (s .args .esr) (classOf (s .args .esr)) (s .args .counts .now) (a .last .0) (f .result)
-          (omega (arith, class-small (s .args .esr), f .ensures, s .pre .0)) (sym (f .ensures) ∙ omega arith) (accepted-class (s .args .esr) h) (a .ensures),
-      noted-nowhere isRefusedBy 1 (s .args .esr) (s .args .refused .now) (accepted-number (s .args .esr) h),
+      noted-there (isOfClass p) v (s .args .counts .now) (a .last .0) (f .result)
+          (omega (arith, class-small p v, f .ensures, s .pre .0))
+          (λ q l. accepted-class p v h q (omega (arith, s .pre .0, l)) ∙ ap (λ (k : ℕ). eqb k q) (sym (f .ensures))) (a .ensures),
+      noted-nowhere (isRefusedAt p) v (s .args .refused .now) (λ q l. accepted-number p v h q (omega (arith, s .pre .1, l))),
     )
 
 returns-2 : tie.Need-returns-2
 returns-2 c =
-    let i = c .before .before in
-    let n = i .before .number in
-    let s = i .before .before .before .before .before in
-    let e = told (s .args .esr) _ _ (i .before .before .before .decode .ensures) (n .ensures) in
-    let h : numberOf (s .args .esr) ≡ 0 → ⊥ = λ z. omega (arith, i .if1 .left, e, z) in
-    let r = refused-number (s .args .esr) h in (
-      noted-nowhere isOfClass 0 (s .args .esr) (s .args .counts .now) (λ p. refused-class (s .args .esr) h (0 + p)),
-      noted-there isRefusedBy 1 (s .args .esr) (numberOf (s .args .esr)) (s .args .refused .now) (c .add-one2 .last .0) _
-          (omega (arith, e, r .0, r .1, s .pre .1)) (omega (arith, e, r .0)) (by-number (s .args .esr)) (c .add-one2 .ensures),
+    let w = c .before in
+    let s = w .before .before .before .before .before .before .before in
+    let p = s .args .profile in
+    let v = s .args .esr in
+    let r = refused w in (
+      noted-nowhere (isOfClass p) v (s .args .counts .now) (λ q l. refused-class p v (r .0) q (omega (arith, s .pre .0, l))),
+      noted-there (isRefusedAt p) v (s .args .refused .now) (c .add-one2 .last .0) (w .value-place .result)
+          (omega (arith, r .1, refused-small p v (r .0), s .pre .1))
+          (λ q l. refused-place p v (r .0) q (omega (arith, s .pre .1, l)) ∙ ap (λ (k : ℕ). eqb k q) (sym (r .1))) (c .add-one2 .ensures),
     )
 
 pub note-spec : {M : Type 1} → statement M
 note-spec =
     tie.close
     (tie.spec
-    decode-requires
-    number-requires
-    field-requires
+    (λ c κs. search needs)
+    (λ c κs. search needs)
+    (λ c κs. search needs)
     add-one-requires
-    cast-add-one
-    sub-add-one
+    (λ c κs. search needs)
     add-one-requires-2
-    same-length
+    (λ c. search needs)
     returns
     returns-2)

@@ -14,7 +14,7 @@ carrying-requires : tie.Need-carrying-requires
 carrying-requires c κs = search needs
 
 returns : tie.Need-returns
-returns c = ap (λ (f : Refusal). record { refusal = f; refused = replicate {A = ℕ} 7 0 }) (c .carrying .ensures)
+returns c = ap (λ (f : Refusal). record { refusal = f; refused = replicate {A = ℕ} 9 0 }) (c .carrying .ensures)
 
 pub refuse-spec : {M : Type 1} → statement M
 refuse-spec = tie.close (tie.spec carrying-requires returns)

@@ -24,7 +24,7 @@ refuse-requires c κs = search needs
 returns : tie.Need-returns
 returns c =
     let s = c .before .before .before .before in
-    ap (λ (t : Tally). (t, s .args .counts .now)) (c .refuse .ensures) ∙ sym (bad-table (s .args .values .now) (s .args .counts .now) (λ e. omega (arith, c .before .if1 .taken, e)))
+    ap (λ (t : Tally). (t, s .args .counts .now)) (c .refuse .ensures) ∙ sym (bad-table (s .args .profile) (s .args .values .now) (s .args .counts .now) (λ e. omega (arith, c .before .if1 .taken, e)))
 
 refuse-requires-2 : tie.Need-refuse-requires-2
 refuse-requires-2 c κs = search needs
@@ -33,7 +33,7 @@ returns-2 : tie.Need-returns-2
 returns-2 c =
     let s = c .before .before .before .before .before in
     ap (λ (t : Tally). (t, s .args .counts .now)) (c .refuse2 .ensures)
-    ∙ sym (long-run (s .args .values .now) (s .args .counts .now) (omega arith) (c .before .if2 .taken))
+    ∙ sym (long-run (s .args .profile) (s .args .values .now) (s .args .counts .now) (omega arith) (c .before .if2 .taken))
 
 clear-requires : tie.Need-clear-requires
 clear-requires c κs = search needs
@@ -49,14 +49,14 @@ same-length c =
     let s = c .before .before .before .before .before .before .before .before .before .before .before .before .before in
     let n = c .before .before .note-all .ensures .0 in
     let e : 64 ≡ length (s .args .counts .now) = omega arith in
-    ap length n ∙ counts-length isOfClass 0 64 (s .args .values .now) ∙ e
+    ap length n ∙ counts-length (isOfClass (s .args .profile)) 0 64 (s .args .values .now) ∙ e
 
 returns-3 : tie.Need-returns-3
 returns-3 c =
     let s = c .before .before .before .before .before .before .before .before .before .before .before .before .before in
     let n = c .before .before .note-all .ensures in
     ap₂ (λ (r t : List ℕ). (record { refusal = noRefusal; refused = r }, t)) (n .1) (n .0)
-    ∙ sym (counted (s .args .values .now) (s .args .counts .now) (omega arith) (omega arith))
+    ∙ sym (counted (s .args .profile) (s .args .values .now) (s .args .counts .now) (omega arith) (omega arith))
 
 pub survey-spec : {M : Type 1} → statement M
 survey-spec =

@@ -15,10 +15,10 @@ use Rattle.survey_reply.proofs.find_label.Statement.{statement}
 use Rattle.survey_reply.proofs.find_label.Tie as tie
 
 abbrev Inv-loop : tie.InvT-loop
-Inv-loop line text₀ place₀ text place = (length text ≡ 16) × (place ≤ 72) × (placeOf line ≡ placeFrom place (72 - place) line)
+Inv-loop line text₀ place₀ text place = (length text ≡ 16) × (place ≤ 74) × (placeOf line ≡ placeFrom place (74 - place) line)
 
 abbrev μ-loop : tie.MeasureT-loop
-μ-loop line text₀ place₀ text place = 72 - place
+μ-loop line text₀ place₀ text place = 74 - place
 
 loop-holds : tie.Need-loop-holds Inv-loop μ-loop
 loop-holds c = (refl, omega arith, refl)

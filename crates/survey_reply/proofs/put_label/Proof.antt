@@ -18,9 +18,11 @@ returns-2 : tie.Need-returns-2
 unfolding bytes
 returns-2 c =
     let d = c .before .before in
-    let b = d .before .before .before .before in
+    let v = d .before in
+    let b = v .before .before .before .before in
     let i = b .before .before .before in
-    rw (label-refusal (i .before .before .before .args .place) (i .before .if1 .left) (i .if2 .taken)) (and-then (b .put-bytes2 .ensures) (d .put-number .ensures))
+    rw (label-refusal (i .before .before .before .args .place) (i .before .if1 .left) (i .if2 .taken))
+    (and-then (b .put-bytes2 .ensures) (rw (v .value-number .ensures) at (d .put-number .ensures)))
 
 returns-3 : tie.Need-returns-3
 unfolding bytes
@@ -39,6 +41,7 @@ put-label-spec =
     (λ c. search needs)
     returns
     (λ c. search needs)
+    (λ c κs. search needs)
     (λ c κs. search needs)
     (λ c. search needs)
     (λ c κs. search needs)

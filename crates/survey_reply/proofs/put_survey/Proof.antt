@@ -13,10 +13,10 @@ use Rattle.survey_reply.proofs.put_survey.Tie as tie
 
 abbrev Inv-loop : tie.InvT-loop
 Inv-loop buf₀ at totals all next₀ place₀ buf next place =
-    (place ≤ 72) × Appends (saidFrom all totals 0 place) (at, buf₀) (next, buf) × (length buf ≡ length buf₀)
+    (place ≤ 74) × Appends (saidFrom all totals 0 place) (at, buf₀) (next, buf) × (length buf ≡ length buf₀)
 
 abbrev μ-loop : tie.MeasureT-loop
-μ-loop buf₀ at totals all next₀ place₀ buf next place = 72 - place
+μ-loop buf₀ at totals all next₀ place₀ buf next place = 74 - place
 
 loop-holds : tie.Need-loop-holds Inv-loop μ-loop
 loop-holds c = (omega arith, rw (no-place-yet _ _) (none (omega arith)), refl)
@@ -32,7 +32,7 @@ loop-again c =
 returns : tie.Need-returns Inv-loop μ-loop
 returns c =
     let l = c .before .loop in
-    let e : l .place ≡ 72 = omega arith in
+    let e : l .place ≡ 74 = omega arith in
     rw e at (l .inv .1)
 
 pub put-survey-spec : {M : Type 1} → statement M

@@ -15,13 +15,13 @@ use Rattle.walk.proofs.count.Statement.{statement}
 use Rattle.walk.proofs.count.Tie as tie
 
 abbrev Inv-loop : tie.InvT-loop
-Inv-loop block entries₀ decoded₀ at₀ entries decoded at =
+Inv-loop profile block entries₀ decoded₀ at₀ entries decoded at =
     (at ≤ length block) × (entries ≤ at) × (decoded ≤ entries)
     × (length (entriesOf block) ≡ entries + length (entriesOf (drop at block)))
-    × (decodedIn (entriesOf block) ≡ decoded + decodedIn (entriesOf (drop at block)))
+    × (decodedIn profile (entriesOf block) ≡ decoded + decodedIn profile (entriesOf (drop at block)))
 
 abbrev μ-loop : tie.MeasureT-loop
-μ-loop block entries₀ decoded₀ at₀ entries decoded at = length block - at
+μ-loop profile block entries₀ decoded₀ at₀ entries decoded at = length block - at
 
 loop-holds : tie.Need-loop-holds Inv-loop μ-loop
 loop-holds c = (search needs, search needs, search needs, omega arith, omega arith)
@@ -39,7 +39,7 @@ returns c =
     let l = c .before .before .before .before .before .before .loop in
     let s = c .before .before .before .before .before .before .before .before .args .block .now in
     let none = entries-none (drop (l .at) s) (λ z. c .if1 .taken (tested (c .before) ∙ z)) in
-    (count-done _ (l .entries) (drop (l .at) s) (l .inv .3) none, decoded-done _ (l .decoded) (drop (l .at) s) (l .inv .4) none)
+    (count-done _ (l .entries) (drop (l .at) s) (l .inv .3) none, decoded-done _ _ (l .decoded) (drop (l .at) s) (l .inv .4) none)
 
 -- past the test the entry is sound, and its 13 bytes are there
 free : (c : tie.Else1 Inv-loop μ-loop)
@@ -57,7 +57,7 @@ add-entries : tie.Need-add-entries Inv-loop μ-loop
 add-entries c = omega (arith, long c, c .before .before .before .before .before .before .before .before .good)
 
 one : (c : tie.After-decoded-of Inv-loop μ-loop) → c .decoded-of .result ≤ 1
-one c = omega (arith, c .decoded-of .ensures, at-most-one (decodes (c .before .before .before .before .read-entry .result .esr)))
+one c = omega (arith, c .decoded-of .ensures, at-most-one (decodes (c .before .before .before .before .before .before .before .before .before .args .profile) (c .before .before .before .before .read-entry .result .esr)))
 
 add-decoded : tie.Need-add-decoded Inv-loop μ-loop
 add-decoded c = omega (arith, one c, long (c .before), c .before .before .before .before .before .before .before .before .before .good)
@@ -75,7 +75,7 @@ loop-again c =
     let s = e .before .before .before .before .before .args .block .now in
     let t = drop (l .at) s in
     let read = e .read-entry .ensures ∙ ap entryOf (rest s (l .at)) in
-    let d = decoded-more _ (l .decoded) t (l .inv .4) _ (free (c .before)) (c .decoded-of .ensures ∙ ap (λ (x : Entry). cond (decodes (x .esr)) 1 0) read) in
+    let d = decoded-more _ _ (l .decoded) t (l .inv .4) _ (free (c .before)) (c .decoded-of .ensures ∙ ap (λ (x : Entry). cond (decodes (e .before .before .before .before .before .args .profile) (x .esr)) 1 0) read) in
     (long (c .before), omega arith, omega (arith, one c), rw drop-drop at (count-more _ (l .entries) t (l .inv .3) (free (c .before))), rw drop-drop at d)
 
 returns-2 : tie.Need-returns-2 Inv-loop μ-loop
@@ -83,7 +83,7 @@ returns-2 c =
     let l = c .before .loop in
     let s = c .before .before .before .args .block .now in
     let none = entries-end s (l .at) (c .loop-test .left) in
-    (count-done _ (l .entries) (drop (l .at) s) (l .inv .3) none, decoded-done _ (l .decoded) (drop (l .at) s) (l .inv .4) none)
+    (count-done _ (l .entries) (drop (l .at) s) (l .inv .3) none, decoded-done _ _ (l .decoded) (drop (l .at) s) (l .inv .4) none)
 
 pub count-spec : {M : Type 1} → statement M
 count-spec =

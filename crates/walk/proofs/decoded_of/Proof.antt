@@ -7,13 +7,13 @@ use Rattle.walk.proofs.decoded_of.Tie as tie
 returns : tie.Need-returns
 returns c =
     let n = c .before in
-    let d = n .before .before .decode in
+    let d = n .before .before .decode-by in
     rw (← (d .ensures), passed-no (d .result .refusal) (n .number .ensures) (c .if1 .taken))
 
 returns-2 : tie.Need-returns-2
 returns-2 c =
     let n = c .before in
-    let d = n .before .before .decode in
+    let d = n .before .before .decode-by in
     rw (← (d .ensures), passed-yes (d .result .refusal) (n .number .ensures) (c .if1 .left))
 
 pub decoded-of-spec : {M : Type 1} → statement M

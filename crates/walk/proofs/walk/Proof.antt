@@ -16,7 +16,7 @@ returns c =
     let i = c .before .before in
     let a = i .before .before .before .args in
     ap (λ (w : Walked). (w, a .steps .now)) (c .refuse .ensures ∙ ap refusing (c .before .carrying .ensures))
-    ∙ sym (walk-long (a .block .now) (a .steps .now) (i .if1 .taken))
+    ∙ sym (walk-long (a .profile) (a .block .now) (a .steps .now) (i .if1 .taken))
 
 -- the places needed
 needed : (c : tie.After-steps-of) → c .steps-of .result ≡ length (stepsIn (c .before .before .before .before .before .args .block .now))
@@ -30,7 +30,7 @@ returns-2 c =
     let n = i .before in
     let a = n .before .before .before .before .before .args in
     ap (λ (w : Walked). (w, a .steps .now)) (c .refuse2 .ensures ∙ ap refusing (c .before .carrying2 .ensures))
-    ∙ sym (walk-short (a .block .now) (a .steps .now) (n .steps-of .result) (n .before .before .if1 .left) (needed n) (i .if2 .taken))
+    ∙ sym (walk-short (a .profile) (a .block .now) (a .steps .now) (n .steps-of .result) (n .before .before .if1 .left) (needed n) (i .if2 .taken))
 
 write-steps-requires : tie.Need-write-steps-requires
 write-steps-requires c κs = let n = c .before .before in omega (arith, needed n, c .before .if2 .left)
@@ -58,9 +58,9 @@ returns-3 c =
     let a = k .before .before .before .before .args in
     let s = a .block .now in
     ap₂ (λ (x : Walked) (l : List ℕ). (x, l))
-    (walked-is s _ _ _ _ (k .count .ensures .0) (k .count .ensures .1) (rest s (13 * k .count .result .entries)) (c .end-refusal .ensures))
+    (walked-is (a .profile) s _ _ _ _ (k .count .ensures .0) (k .count .ensures .1) (rest s (13 * k .count .result .entries)) (c .end-refusal .ensures))
     (w .write-steps .ensures)
-    ∙ sym (walk-whole s (a .steps .now) (n .steps-of .result) (k .before .if1 .left) (needed n) (i .if2 .left))
+    ∙ sym (walk-whole (a .profile) s (a .steps .now) (n .steps-of .result) (k .before .if1 .left) (needed n) (i .if2 .left))
 
 pub walk-spec : {M : Type 1} → statement M
 walk-spec =

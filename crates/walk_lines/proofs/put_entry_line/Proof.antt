@@ -15,7 +15,7 @@ returns c =
     let s = r .before .before .before .before in
     let t = s .before .before .before .before in
     let d = t .before .before .before in
-    rw (← (d .decode .ensures)) (and-then (and-then (and-then (and-then (t .put-verdict .ensures) (s .put-place .ensures)) (r .put-numbers .ensures)) (q .put-meaning .ensures)) (p .put-bytes .ensures))
+    rw (← (d .decode-by .ensures)) (and-then (and-then (and-then (and-then (t .put-verdict .ensures) (s .put-place .ensures)) (r .put-numbers .ensures)) (q .put-meaning .ensures)) (p .put-bytes .ensures))
 
 pub put-entry-line-spec : {M : Type 1} → statement M
 put-entry-line-spec =

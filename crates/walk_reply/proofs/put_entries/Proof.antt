@@ -18,14 +18,14 @@ use Rattle.walk_reply.proofs.put_entries.Statement.{statement}
 use Rattle.walk_reply.proofs.put_entries.Tie as tie
 
 abbrev Inv-loop : tie.InvT-loop
-Inv-loop buf₀ at block steps count next₀ i₀ buf next i =
-    (i ≤ count) × Appends (inOrder (linesAt steps) (take i (entriesOf block))) (at, buf₀) (next, buf) × (length buf ≡ length buf₀)
+Inv-loop buf₀ at profile block steps count next₀ i₀ buf next i =
+    (i ≤ count) × Appends (inOrder (linesAt profile steps) (take i (entriesOf block))) (at, buf₀) (next, buf) × (length buf ≡ length buf₀)
 
 abbrev μ-loop : tie.MeasureT-loop
-μ-loop buf₀ at block steps count next₀ i₀ buf next i = count - i
+μ-loop buf₀ at profile block steps count next₀ i₀ buf next i = count - i
 
 loop-holds : tie.Need-loop-holds Inv-loop μ-loop
-loop-holds c = (search needs, rw (no-items (linesAt _)) (none (search needs)), refl)
+loop-holds c = (search needs, rw (no-items (linesAt _ _)) (none (search needs)), refl)
 
 -- there is an entry of this index, and it lies in the block
 here : (c : tie.In-loop Inv-loop μ-loop) → c .before .loop .i < length (entriesOf (c .before .before .before .before .before .args .block .now))
@@ -56,7 +56,7 @@ loop-again c =
     let s = a .block .now in
     let read = r .read-entry .ensures ∙ ap entryOf (rest s (13 * l .loop .i)) ∙ sym (entry-at (l .loop .i) s (here t) .0) in
     let w = and-then (l .loop .inv .1) (and-then (q .put-entry-line .ensures) (rw (k .step-at .ensures) at (p .put-step-line .ensures))) in
-    (omega (arith, t .loop-test .taken), rw (one-more (linesAt (a .steps .now)) (entriesOf s) (l .loop .i) nothing (here t), ← read) w, same-length w)
+    (omega (arith, t .loop-test .taken), rw (one-more (linesAt (a .profile) (a .steps .now)) (entriesOf s) (l .loop .i) nothing (here t), ← read) w, same-length w)
 
 returns : tie.Need-returns Inv-loop μ-loop
 returns c =

@@ -14,9 +14,9 @@ returns c =
     let r = q .before in
     let s = r .before .before .before in
     let t = s .before .before in
-    let a = t .before .before .before .args .block .now in
-    let is = s .walk .ensures ∙ ap (walking a) (t .no-steps .ensures) in
-    rw (reply-refused a _ _ is (r .number .result) (r .number .ensures) (q .if1 .taken)) (p .put-refusal .ensures)
+    let a = t .before .before .before .args in
+    let is = s .walk .ensures ∙ ap (walking (a .profile) (a .block .now)) (t .no-steps .ensures) in
+    rw (reply-refused (a .profile) (a .block .now) _ _ is (r .number .result) (r .number .ensures) (q .if1 .taken)) (p .put-refusal .ensures)
 
 put-entries-requires : tie.Need-put-entries-requires
 put-entries-requires c κs =
@@ -24,9 +24,9 @@ put-entries-requires c κs =
     let q = p .before in
     let r = q .before .before .before in
     let s = r .before .before in
-    let a = s .before .before .before .args .block .now in
-    let is = r .walk .ensures ∙ ap (walking a) (s .no-steps .ensures) in
-    entries-told a _ _ is (q .number .result) (q .number .ensures) (p .if1 .left)
+    let a = s .before .before .before .args in
+    let is = r .walk .ensures ∙ ap (walking (a .profile) (a .block .now)) (s .no-steps .ensures) in
+    entries-told (a .profile) (a .block .now) _ _ is (q .number .result) (q .number .ensures) (p .if1 .left)
 
 returns-2 : tie.Need-returns-2
 returns-2 c =
@@ -37,9 +37,9 @@ returns-2 c =
     let t = s .before in
     let u = t .before .before .before in
     let v = u .before .before in
-    let a = v .before .before .before .args .block .now in
-    let is = u .walk .ensures ∙ ap (walking a) (v .no-steps .ensures) in
-    rw (← (reply-whole a _ _ is (t .number .result) (t .number .ensures) (s .if1 .left)))
+    let a = v .before .before .before .args in
+    let is = u .walk .ensures ∙ ap (walking (a .profile) (a .block .now)) (v .no-steps .ensures) in
+    rw (← (reply-whole (a .profile) (a .block .now) _ _ is (t .number .result) (t .number .ensures) (s .if1 .left)))
     (and-then (and-then (r .put-entries .ensures) (q .put-count-line .ensures)) (p .put-end-line .ensures))
 
 pub put-walk-reply-spec : {M : Type 1} → statement M

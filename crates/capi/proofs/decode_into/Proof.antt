@@ -1,18 +1,17 @@
 -- A refusal of the value comes first; then the room is held against the count of its records, which are put where they fit.
 use mathlib.Core.Path.{_≡_, sym, _∙_}
 use lib.ListN.{length}
-use Rattle.listing.proofs.Answers.{room}
 use Rattle.records.proofs.Laws.{long-as}
 use Rattle.records.specs.Sets.{setRoom}
-use Rattle.capi.proofs.Laws.{filled-short, filled-whole, decode-refused, decode-read, slots-count}
+use Rattle.capi.proofs.Laws.{filled-short, filled-whole, decode-refused, decode-read, room, slots-count}
 use borrow.Author.Needs.{needs}
-use Rattle.capi.proofs.esr_decode.Statement.{statement}
-use Rattle.capi.proofs.esr_decode.Tie as tie
+use Rattle.capi.proofs.decode_into.Statement.{statement}
+use Rattle.capi.proofs.decode_into.Tie as tie
 
 returns : tie.Need-returns
 returns c =
     let n = c .before .before in
-    decode-refused _ (n .before .before .decode .ensures) (n .number .ensures) _ (c .before .if1 .taken) (c .filled-of .ensures)
+    decode-refused _ _ (n .before .before .decode-by .ensures) (n .number .ensures) _ (c .before .if1 .taken) (c .filled-of .ensures)
 
 returns-2 : tie.Need-returns-2
 returns-2 c =
@@ -20,17 +19,17 @@ returns-2 c =
     let t = s .before .before in
     let n = t .before in
     let d = n .before .before in
-    let long : length (d .decode .result .records .items) ≡ setRoom = search (long-as, d .decode .ok .1 .1 .1 .0 .1 .1 .0) in
-    let few = room _ (d .decode .ensures) (n .number .ensures) long in
+    let long : length (d .decode-by .result .records .items) ≡ setRoom = search (long-as, d .decode-by .ok .1 .1 .1 .0 .1 .1 .0) in
+    let few = room (d .before .args .profile) (d .before .args .esr) (d .decode-by .ensures) long in
     filled-short _ _ (sym (slots-count _ long few)) (s .before .if2 .taken) (s .carrying .ensures) (c .filled-of2 .ensures)
-    ∙ decode-read _ (d .decode .ensures) (n .number .ensures) _ (t .if1 .left)
+    ∙ decode-read _ _ (d .decode-by .ensures) (n .number .ensures) _ (t .if1 .left)
 
 put-records-requires : tie.Need-put-records-requires
 put-records-requires c κs =
     let n = c .before .before .before in
     let d = n .before .before in
-    let long : length (d .decode .result .records .items) ≡ setRoom = search (long-as, d .decode .ok .1 .1 .1 .0 .1 .1 .0) in
-    (room _ (d .decode .ensures) (n .number .ensures) long, c .before .if2 .left)
+    let long : length (d .decode-by .result .records .items) ≡ setRoom = search (long-as, d .decode-by .ok .1 .1 .1 .0 .1 .1 .0) in
+    (room (d .before .args .profile) (d .before .args .esr) (d .decode-by .ensures) long, c .before .if2 .left)
 
 returns-3 : tie.Need-returns-3
 returns-3 c =
@@ -38,10 +37,10 @@ returns-3 c =
     let i = p .before .before in
     let n = i .before .before in
     filled-whole _ _ (sym (p .put-records .ensures .0)) (i .if2 .left) (c .filled-of3 .ensures) (p .put-records .ensures .1)
-    ∙ decode-read _ (n .before .before .decode .ensures) (n .number .ensures) _ (i .before .if1 .left)
+    ∙ decode-read _ _ (n .before .before .decode-by .ensures) (n .number .ensures) _ (i .before .if1 .left)
 
-pub esr-decode-spec : {M : Type 1} → statement M
-esr-decode-spec =
+pub decode-into-spec : {M : Type 1} → statement M
+decode-into-spec =
     tie.close
     (tie.spec
     (λ c κs. search needs)
