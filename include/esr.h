@@ -27,7 +27,7 @@ enum {
     ESR_INVALID_FSC = 3,       /* a status that is read isn't on its list; the status */
     ESR_INVALID_SET = 4,       /* status 0x10 in an abort class and SET = 1; SET */
     ESR_INVALID_AET = 5,       /* AET 4, 5 or 7 where AET is read; AET */
-    ESR_INVALID_AM = 6,        /* AM 5 or 7; AM */
+    ESR_INVALID_AM = 6,        /* AM 5 or 7, in strict reading 4 and 6 too; AM */
     ESR_INVALID_LD64B_ISS = 7, /* class 0x0A, ISS above 2; ISS */
     ESR_EMPTY = 8,             /* a number without characters after any "0x" */
     ESR_INVALID_DIGIT = 9,     /* a number with a character that is not a digit */
@@ -44,7 +44,9 @@ enum {
     ESR_LONG_BLOCK = 20,       /* a block of more than 65,536 bytes */
     ESR_NO_LAYOUT = 21,        /* no layout of the class has that many leaves and fits its conditions */
     ESR_WIDE_LEAF = 22,        /* a leaf or ISS2 that doesn't fit its width, or an IL that isn't 0 or 1 */
-    ESR_BAD_REST = 23          /* something else than a space, tab, carriage return or line feed stands behind a number */
+    ESR_BAD_REST = 23,         /* something else than a space, tab, carriage return or line feed stands behind a number */
+    ESR_INVALID_WU = 24,       /* strict reading: WU 1 where WU is read */
+    ESR_INVALID_VNCR = 25      /* strict reading: VNCR is not 0, and the core has no nested virtualisation */
 };
 
 /* As many records as any value has: 14 inside ISS, 19 in all. */
@@ -141,6 +143,12 @@ typedef struct esr_surveyed {
    carries the slots needed. A refusal leaves the array as it was; accepted, the slots after the records stay as they were. Of a trapped MSR or MRS, class 0x18, the
    text of ISS is the name of the system register, as "SCTLR_EL1" in 0x62300401, if it is one of the 64 that have one. */
 esr_filled esr_decode(uint64_t esr, esr_record *slots, size_t length);
+
+/* Decodes a value as esr_decode does, and then asks what the Arm manual asks beyond it, which is meant for a release. What esr_decode refuses is refused by the same number, carrying
+   and naming the same. Of what it accepts, the first field from high bits to low answers that is one of these: WU 1, in data aborts and SErrors where WU is read, by 24; VNCR other than 0, in data aborts and
+   watchpoints, by 25, unless nested is not 0, which says that the core has nested virtualisation; bits 11 and 12 of an abort without SET other than 0, by 1, naming them; AM 4 or 6, by 6. 24
+   and 25 carry 0. A value that is accepted has the records that esr_decode gives, marks included: a mark says what the ordinary decoder asks. Then 11 as above; a refusal leaves the array as it was. */
+esr_filled esr_decode_strict(uint64_t esr, uint8_t nested, esr_record *slots, size_t length);
 
 /* Writes the name, long name or text of a code into the front of the buffer, without a 0 after it. 11 where the text is longer than the
    buffer, carrying the bytes needed; the buffer then stays as it was. Accepted, the bytes after the text stay. A code of no text gives

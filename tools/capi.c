@@ -108,6 +108,53 @@ static void check_lengths(size_t index) {
     }
 }
 
+/* Strict reading, by values that the ordinary decoder accepts: what refuses them without nested virtualisation and with it, and the count of records. */
+static const struct {
+    uint64_t esr;
+    size_t count;
+    refused without, with;
+} strictly[] = {
+    {0x56000001, 7, {0, 0, 0, 0}, {0, 0, 0, 0}},     {0x90010010, 19, {0, 24, 0, 0}, {0, 24, 0, 0}},    {0x92002004, 18, {0, 25, 0, 0}, {0, 0, 0, 0}},
+    {0x90000804, 18, {1, 1, 11, 2}, {1, 1, 11, 2}},  {0x90003004, 18, {0, 25, 0, 0}, {2, 1, 11, 2}},    {0x90013010, 19, {0, 24, 0, 0}, {0, 24, 0, 0}},
+    {0x1800000C, 13, {6, 6, 0, 0}, {6, 6, 0, 0}},    {0x18000008, 13, {4, 6, 0, 0}, {4, 6, 0, 0}},      {0x18000006, 13, {0, 0, 0, 0}, {0, 0, 0, 0}},
+    {0xBC010011, 17, {0, 24, 0, 0}, {0, 24, 0, 0}},  {0xD0002022, 13, {0, 25, 0, 0}, {0, 0, 0, 0}},     {0xBDFFFFFF, 7, {0, 0, 0, 0}, {0, 0, 0, 0}},
+};
+
+static void check_strict_lengths(uint64_t esr, size_t count, refused by, uint8_t nested) {
+    mark(whole.bytes, sizeof whole.bytes);
+    HOLDS(answers(esr_decode(esr, whole.records, ROOM), ESR_ACCEPTED, 0, count));
+    for (size_t length = 0; length <= ROOM; length++) {
+        mark(slots.bytes, sizeof slots.bytes);
+        esr_filled filled = esr_decode_strict(esr, nested, slots.records, length);
+        if (by.refusal != ESR_ACCEPTED) {
+            HOLDS(is_refused(filled, by));
+            HOLDS(marked(slots.bytes, 0, sizeof slots.bytes));
+        } else if (length < count) {
+            HOLDS(answers(filled, ESR_SHORT_BUFFER, count, 0));
+            HOLDS(marked(slots.bytes, 0, sizeof slots.bytes));
+        } else {
+            HOLDS(answers(filled, ESR_ACCEPTED, 0, count));
+            HOLDS(same(slots.bytes, whole.bytes, sizeof slots.bytes));
+        }
+    }
+}
+
+/* Any number but 0 says that the core has nested virtualisation. */
+static void check_strict(void) {
+    for (size_t i = 0; i < sizeof strictly / sizeof strictly[0]; i++) {
+        check_strict_lengths(strictly[i].esr, strictly[i].count, strictly[i].without, 0);
+        check_strict_lengths(strictly[i].esr, strictly[i].count, strictly[i].with, 1);
+        check_strict_lengths(strictly[i].esr, strictly[i].count, strictly[i].with, 0x80);
+        check_strict_lengths(strictly[i].esr, strictly[i].count, strictly[i].with, 0xFF);
+    }
+    for (size_t i = 0; i < sizeof values / sizeof values[0]; i++) {
+        if (values[i].by.refusal != ESR_ACCEPTED) {
+            HOLDS(gives(esr_decode_strict(values[i].esr, 0, slots.records, ROOM), i));
+            HOLDS(gives(esr_decode_strict(values[i].esr, 1, slots.records, ROOM), i));
+        }
+    }
+}
+
 /* The functions that write a text, as one form: those that take one number leave the other. */
 typedef esr_filled (*writer)(uint64_t, uint64_t, uint8_t *, size_t);
 
@@ -549,6 +596,12 @@ static void call_decode(void) {
     sink = &filled;
 }
 
+static void call_decode_strict(void) {
+    static esr_filled filled;
+    filled = esr_decode_strict(asked, (uint8_t)beside, slots.records, ROOM);
+    sink = &filled;
+}
+
 static void call_writer(void) {
     static esr_filled filled;
     filled = writing(asked, beside, text, BYTES);
@@ -645,6 +698,7 @@ int main(void) {
         check_lengths(i);
         check_listings(i);
     }
+    check_strict();
     check_members();
     check_listed();
     check_texts();
@@ -662,6 +716,7 @@ int main(void) {
     say_number(checks, 10);
     say("\n");
     measure("esr_decode", call_decode, syndrome, CLASSES * MARKED);
+    measure("esr_decode_strict", call_decode_strict, syndrome, CLASSES * MARKED);
     measure_writer("esr_text", write_text, counted, 1024);
     measure_writer("esr_listing", write_listing, syndrome, CLASSES * MARKED);
     measure_writer("esr_record_line", write_record_line, syndrome, CLASSES * MARKED);

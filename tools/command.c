@@ -22,8 +22,9 @@ void rattle_set_errno(int error);
 enum { IN = 0, OUT = 1, ERR = 2 };
 enum { ANSWERED = 0, REFUSED = 1, FAILED = 2 };
 
-/* The option, which is the program's argument 1, or null. */
+/* The program's own option, which is its argument 1, and how values are read (#110), which is its argument 2; or null. */
 static const char *option;
+static const char *profile;
 /* Where the input comes from: an open file and the names of those that follow it, or words that are left. */
 static int source = IN;
 static char **files;
@@ -182,12 +183,13 @@ static long of_files(char *bytes, size_t length) {
 long rattle_arg(size_t index, uint8_t *bytes, size_t length) {
     const long missing = -1;
     const long too_long = -2;
-    if (index != 1 || option == NULL) {
+    const char *given = index == 1 ? option : index == 2 ? profile : NULL;
+    if (given == NULL) {
         return missing;
     }
-    size_t count = length_of(option);
+    size_t count = length_of(given);
     for (size_t i = 0; i < count && i < length; i++) {
-        bytes[i] = (uint8_t)option[i];
+        bytes[i] = (uint8_t)given[i];
     }
     return count <= length ? (long)count : too_long;
 }
@@ -315,10 +317,34 @@ static char **after_option(char **given, const char *const *options) {
     return given;
 }
 
+/* The words after those that say how values are read: `--strict`, and `--nested` where the core has nested virtualisation. */
+static char **after_profile(char **given) {
+    for (; *given != NULL; given++) {
+        if (is(*given, "--strict") && profile == NULL) {
+            profile = "--strict";
+        } else if (is(*given, "--nested") && profile != NULL) {
+            profile = "--nested";
+        } else if (is(*given, "--nested")) {
+            fail("--nested goes with strict reading: ", "esr --strict --nested", "");
+        } else if (!is(*given, "--strict")) {
+            break;
+        }
+    }
+    return given;
+}
+
+/* A command that reads no syndrome cannot read one strictly. */
+static void expect_no_profile(const char *command) {
+    if (profile != NULL) {
+        fail("there is no strict reading for '", command, "'; 'esr help' tells what there is");
+    }
+}
+
 /* The values are lines of standard input, whose remarks are passed over where that is asked for, or words, each of which is one whole number. */
 static void run_on_values(program *asked, char **given) {
+    given = after_profile(given);
     if (*given != NULL && is(*given, "--remarks")) {
-        given++;
+        given = after_profile(given + 1);
         option = *given == NULL ? "--remarks" : NULL;
     }
     run(asked, given);
@@ -326,10 +352,11 @@ static void run_on_values(program *asked, char **given) {
 
 static void survey(char **given) {
     static const char *const options[] = {"--all", "--add", NULL};
-    char **names = after_option(given, options);
+    char **names = after_profile(after_option(after_profile(given), options));
     is_partial = 1;
     is_watched = 0;
     if (option != NULL && is(option, "--add")) {
+        expect_no_profile("survey --add");
         run_on_files(esr_survey_sum, names);
     } else {
         run_on_file(esr_survey, names, "esr survey FILE");
@@ -347,6 +374,7 @@ static void make(char **given) {
 }
 
 static void obey(char **given) {
+    given = after_profile(given);
     const char *first = *given != NULL ? *given : "";
     if (is(first, "help") || is(first, "--help") || is(first, "-h")) {
         say(HELP);
@@ -355,14 +383,16 @@ static void obey(char **given) {
     } else if (is(first, "records")) {
         run_on_values(esr_records, given + 1);
     } else if (is(first, "number")) {
+        expect_no_profile(first);
         run_on_values(esr_number, given + 1);
     } else if (is(first, "entry")) {
-        run_on_file(esr_entry, given + 1, "esr entry FILE");
+        run_on_file(esr_entry, after_profile(given + 1), "esr entry FILE");
     } else if (is(first, "walk")) {
-        run_on_file(esr_walk, given + 1, "esr walk FILE");
+        run_on_file(esr_walk, after_profile(given + 1), "esr walk FILE");
     } else if (is(first, "survey")) {
         survey(given + 1);
     } else if (is(first, "make")) {
+        expect_no_profile(first);
         make(given + 1);
     } else if (first[0] != 0 && first[0] != '+' && (first[0] < '0' || '9' < first[0]) && !is(first, "--remarks")) {
         fail("no command '", first, "', and a value begins with a digit; 'esr help' tells what there is");

@@ -1,6 +1,7 @@
 """The programs of the command `esr`: each is proved and built, with all that it rests on, when it is first asked for.
 
 What is built lies in target/esr, with build.log, which has what rt said."""
+import itertools
 import os
 import platform
 import shutil
@@ -23,6 +24,7 @@ SHARED = ("rlib", "stamp", "obj", "bin")  # what rt leaves for the crates above
 LISTING = "esr_listing"
 # The command's words, each with the program that it asks for; without one of them it is the listing.
 COMMANDS = {"records": "esr_records", "number": "esr_number", "entry": "esr_entry", "walk": "esr_walk", "survey": "esr_survey", "make": "esr_make"}
+PROFILE = ("--strict", "--nested")
 # A survey of surveys has a program of its own.
 SUM = ["survey", "--add"]
 PROGRAMS = (LISTING, *COMMANDS.values(), "esr_survey_sum")
@@ -35,8 +37,14 @@ class Failure(Exception):
     """Why there is no program."""
 
 
+def after_profile(words):
+    """The words after those that say how values are read (#110)."""
+    return list(itertools.dropwhile(PROFILE.__contains__, words))
+
+
 def asked(words):
     """The program that the words of a command line ask for."""
+    words = after_profile(words)
     if words[: len(SUM)] == SUM:
         return PROGRAMS[-1]
     return COMMANDS.get(words[0] if words else "", LISTING)

@@ -42,7 +42,7 @@ EFFECTS = re.compile(r"memory\([a-z: ,]+\)")
 # Attributes of the one processor: its name, and how it probes a stack that grows by more than a page.
 OF_X86_64 = ('"probe-stack"="inline-asm"', '"target-cpu"="x86-64"')
 DECLARED = {"llvm.memmove.p0.p0.i64", "llvm.memcpy.p0.p0.i64", "llvm.memset.p0.i64", "llvm.trap", "read", "write", "rattle_arg", "rattle_set_errno"}
-ARGUMENT = r"(?:i16|i64|ptr) noundef %a\d+"
+ARGUMENT = r"(?:i8|i16|i64|ptr) noundef %a\d+"
 EXPORTED = re.compile(rf"define noundef ptr @(\w+)\(ptr noundef %a0((?:, {ARGUMENT})*)\) #\d+ \{{")
 MAIN = re.compile(r"define i32 @main\(\) #\d+ \{")
 
