@@ -1,0 +1,10 @@
+-- Each promise of this crate decides its answer: it says what the answer is.
+use Rattle.promise.specs.Promise.{Decides}
+use Rattle.promise.proofs.Laws.{same}
+use Rattle.engine.specs.Promises.{Judged, Walked}
+
+pub judge-decides : Decides Judged
+judge-decides esr a b = same
+
+pub records-of-decides : Decides Walked
+records-of-decides esr a b = same
