@@ -47,9 +47,12 @@ asksAs w l bs = sameBool (applies (maskOf bs) w) (met (given tests bs) (l .condi
 abbrev rightBy : ℕ → Line → Bool
 rightBy w l = sameRow (rowIn w) (l .row) && atAll 6 (asksAs w l)
 
+abbrev pub rightLine : Line → Bool
+rightLine l = rightBy (packed l) l
+
 abbrev pub right : List Line → Bool
 right [] = true
-right (l ∷ ls) = rightBy (packed l) l && right ls
+right (l ∷ ls) = rightLine l && right ls
 
 abbrev rightTable : ℕ → Served → Bool
 rightTable i s = right (s .table .lines) && knowsLines tests (s .table .lines)
@@ -87,7 +90,7 @@ same-row q r t =
 abbrev pub own : ℕ → Test → Bool
 own v = given tests (map (passes v) tests)
 
-module _ (l : Line) (ok : T (rightBy (packed l) l)) where
+module _ (l : Line) (ok : T (rightLine l)) where
   pub row-back : rowIn (packed l) ≡ l .row
   row-back = same-row (rowIn (packed l)) (l .row) (both-left (sameRow (rowIn (packed l)) (l .row)) _ ok)
 
@@ -110,10 +113,10 @@ pub rows-kept : (v n : ℕ) (ls : List Line) → Stands n ls → T (right ls) �
 unfolding rowsFrom
 rows-kept v n [] s ok = refl
 rows-kept v n (l ∷ ls) s ok =
-    let one : T (rightBy (packed l) l) = both-left (rightBy (packed l) l) _ ok in
+    let one : T (rightLine l) = both-left (rightLine l) _ ok in
     kept (applies (answersOf v) (rowWord n)) (met (own v) (l .conditions)) (rowIn (rowWord n)) (l .row) (rowsFrom (answersOf v) (suc n) (length ls)) (keep (own v) ls)
     (ap (applies (answersOf v)) (s .0) ∙ applies-as l one v) (ap rowIn (s .0) ∙ row-back l one)
-    (rows-kept v (suc n) ls (s .1) (both-right (rightBy (packed l) l) _ ok))
+    (rows-kept v (suc n) ls (s .1) (both-right (rightLine l) _ ok))
 
 -- Where the lines of a class stand.
 
@@ -186,7 +189,7 @@ module _ (k : ℕ) (s : Served) (f : Found k s) (v : ℕ) where
 
 -- A place comes back from its number.
 
-abbrev areBytes : List ℕ → Bool
+abbrev pub areBytes : List ℕ → Bool
 areBytes [] = true
 areBytes (b ∷ bs) = ltb b 256 && areBytes bs
 

@@ -5,6 +5,7 @@ ghost use Rattle.layouts.specs.Layouts.{tableOf};
 ghost use Rattle.records.specs.Bits.{fieldOf};
 ghost use Rattle.records.specs.Sets.{recordsOf};
 ghost use mathlib.Core.Path.{_≡_};
+use engine::top;
 use layouts::numbers;
 use records::Records;
 use records::Row;
@@ -99,42 +100,6 @@ const CLASS: [u8; 64] = [
     EMPTY,
 ];
 
-const RES0: Row = Row {
-    start: 37,
-    width: 27,
-    name: n::RES0,
-    long: n::RES0_LONG,
-    rule: r::PLAIN,
-    kind: k::CHECKED,
-};
-
-const ISS2: Row = Row {
-    start: 32,
-    width: 5,
-    name: n::ISS2,
-    long: n::NONE,
-    rule: r::PLAIN,
-    kind: k::FREE,
-};
-
-const EC: Row = Row {
-    start: 26,
-    width: 6,
-    name: n::EC,
-    long: n::EC_LONG,
-    rule: r::CLASS_NAME,
-    kind: k::EC,
-};
-
-const IL: Row = Row {
-    start: 25,
-    width: 1,
-    name: n::IL,
-    long: n::IL_LONG,
-    rule: r::IL,
-    kind: k::FREE,
-};
-
 // The number of the layout that serves a class; the class may be any number.
 pub fn layout_number(class: u64) -> u8
     ensures { λ r. ⌜ LayoutNumber class r ⌝ }
@@ -187,10 +152,10 @@ fn all_records(esr: u64, number: u8, iss: u64) -> Records
         kind: k::FREE,
     };
     let mut out = Records::empty();
-    out.items[0] = RES0.get(esr);
-    out.items[1] = ISS2.get(esr);
-    out.items[2] = EC.get(esr);
-    out.items[3] = IL.get(esr);
+    out.items[0] = top::RES0.get(esr);
+    out.items[1] = top::ISS2.get(esr);
+    out.items[2] = top::EC.get(esr);
+    out.items[3] = top::IL.get(esr);
     out.items[4] = whole.get(esr);
     out.count = 5;
     let mut i: usize = 0;
@@ -219,11 +184,12 @@ fn read(esr: u64, number: u8) -> Answer
     }
 }
 
-pub fn decode(esr: u64) -> Answer
+// The decoder in the Rust's shape: a routine for each layout.
+pub fn decode_by_layouts(esr: u64) -> Answer
     ensures { λ r. ⌜ Decoded esr r ⌝ }
 {
-    if !RES0.meets(esr) {
-        return refuse(RES0.refusal(esr));
+    if !top::RES0.meets(esr) {
+        return refuse(top::RES0.refusal(esr));
     }
     let class = records::field(esr, 26, 6);
     let number = layout_number(class);
@@ -231,4 +197,18 @@ pub fn decode(esr: u64) -> Answer
         return refuse(Refusal::carrying(Reason::InvalidEc, class));
     }
     read(esr, number)
+}
+
+// The quicker of both: the engine, which walks the one table of all rows (#113).
+pub fn decode(esr: u64) -> Answer
+    ensures { λ r. ⌜ Decoded esr r ⌝ }
+{
+    let refusal = engine::judge(esr);
+    if refusal.number() != 0 {
+        return refuse(refusal);
+    }
+    Answer {
+        refusal: Refusal::NONE,
+        records: engine::records_of(esr),
+    }
 }
