@@ -1,49 +1,29 @@
--- What the functions' proofs cite: an array that is filled from its front one element at a time, what is answered with it, and the records
--- of an answer, of which each has its slot.
-use Prim.Native.Nat.{ℕ, suc, _+_, _≤_, _<_}
-use mathlib.Core.List.{List, [], _∷_, _++_, append-assoc}
-use mathlib.Core.Path.{_≡_, refl, sym, ap, ap₂, subst, _∙_}
-use native.Mathlib.Numerals.{add-one}
+-- What the functions' proofs cite: what is answered with an array that is filled from its front, and the records of an answer as the engine puts them there.
+use Prim.Native.Nat.{ℕ, _≤_, _<_}
+use mathlib.Core.Bool.{Bool, true, false, cond}
+use mathlib.Core.List.{List, [], map}
+use mathlib.Core.Path.{_≡_, refl, sym, ap, ap₂, _∙_}
 use native.Mathlib.Omega.{arith}
-use lib.ListN.{length, getD, take, drop, set, length-map, List·getD-map}
-use lib.Seq.{take-suc, drop-cons, set-at, length-take-le, take-length, getD-take}
-use borrow.Author.Tests.{eq-eqb, ne-eqb, le-leb, lt-leb}
+use lib.Dec.{eqb, leb}
+use lib.ListN.{length}
+use borrow.Author.Tests.{eq-eqb, ne-eqb, eqb-true, eqb-false, le-leb, lt-leb}
+use Rattle.esr.specs.Decode.{refused, accepted}
 use Rattle.esr.specs.declared.Answer.{Answer}
 use Rattle.written.specs.Outcomes.{Outcome, Answers}
 use Rattle.written.specs.declared.Written.{Written}
-use Rattle.records.specs.Sets.{setRoom, noRecord}
-use Rattle.records.specs.declared.Records.{Records}
-use Rattle.refusals.specs.Refusals.{carrying, noRefusal, refusalNumber}
+use Rattle.records.specs.Sets.{recordsOf}
+use Rattle.records.proofs.Laws.{list-of}
+use Rattle.engine.specs.Engine.{readings}
+use Rattle.engine.specs.Words.{wordsOf, putting}
+use Rattle.refusals.specs.Refusals.{carrying, noRefusal, passed, refusalNumber}
 use Rattle.refusals.specs.declared.Reason.the-variants.{ShortBuffer}
 use Rattle.refusals.specs.declared.Refusal.{Refusal}
 use Rattle.strict.specs.Strict.{answerBy}
 use Rattle.strict.specs.declared.Profile.{Profile}
-use Rattle.strict.proofs.Laws.{profile-room}
 use Rattle.capi.specs.Answers.{filledOf}
-use Rattle.capi.specs.Buffers.{front, filling, filledWith}
-use Rattle.capi.specs.Words.{wordsOf, allWords, decoding}
+use Rattle.capi.specs.Buffers.{front, filling, filledWith, refusing}
+use Rattle.capi.specs.Words.{allWords, decoding, judgedFilling}
 use Rattle.capi.specs.declared.Filled.{Filled}
-
--- Filling an array.
-
--- the first i elements are the content's, and the rest stands as it did
-abbrev pub soFar : {A : Type 0} → List A → List A → ℕ → List A
-soFar content before i = take i content ++ drop i before
-
-module _ {A : Type 0} (content before : List A) (fits : length content ≤ length before) where
-  pub so-far-more : (d : A) (i : ℕ) (x : A) → i < length content → x ≡ getD content i d
-      → set (soFar content before i) i x ≡ soFar content before (i + 1)
-  so-far-more d i x less is =
-      ap (λ (l : List A). set (take i content ++ l) i x) (drop-cons before i d (omega arith))
-      ∙ set-at (take i content) (getD before i d) (drop (suc i) before) x i (length-take-le i content (omega arith))
-      ∙ ap (λ (y : A). take i content ++ (y ∷ drop (suc i) before)) is
-      ∙ sym (append-assoc (take i content) (getD content i d ∷ []) (drop (suc i) before))
-      ∙ ap (λ (l : List A). l ++ drop (suc i) before) (sym (take-suc content i d less))
-      ∙ ap (λ (n : ℕ). soFar content before n) (sym (add-one i))
-
-  pub so-far-done : (i : ℕ) → i ≡ length content → soFar content before i ≡ front content before
-  so-far-done i e =
-      ap (λ (n : ℕ). soFar content before n) e ∙ ap (λ (l : List A). l ++ drop (length content) before) (take-length content)
 
 -- what is answered with it
 module _ {A : Type 0} (content before : List A) {count : ℕ} (is : count ≡ length content) {r : Filled} where
@@ -69,28 +49,45 @@ filled-requested o before a e =
 
 -- The records of an answer.
 
--- the refusal of the value, or its records
-module _ (profile : Profile) (esr : ℕ) {a : Answer} {number : ℕ} (is : a ≡ answerBy profile esr) (numbered : number ≡ refusalNumber (a .refusal)) (before : List (List ℕ)) where
-  pub decode-refused : {r : Filled} → (number ≡ 0 → ⊥) → r ≡ filledOf (a .refusal) 0 → (r, before) ≡ decoding profile esr before
-  unfolding decoding
-  decode-refused h e =
-      ap (λ (x : Filled). (x, before)) e ∙ rw (← is) (rw (ne-eqb (refusalNumber (a .refusal)) 0 (λ z. h (numbered ∙ z))) refl)
+-- a value that was judged as a profile judges it has the answer of the profile
+module _ (profile : Profile) (esr : ℕ) (f : Refusal) (no : (refusalNumber f ≡ 0 → ⊥) → refused f ≡ answerBy profile esr)
+    (yes : refusalNumber f ≡ 0 → accepted (readings esr) ≡ answerBy profile esr) (before : List (List ℕ)) where
+  read-words : allWords (recordsOf (readings esr)) ≡ map wordsOf (readings esr)
+  read-words = ap (map wordsOf) (list-of (readings esr))
 
-  pub decode-read : number ≡ 0 → filling (allWords (a .records)) before ≡ decoding profile esr before
-  unfolding decoding
-  decode-read h = rw (← is) (rw (eq-eqb (refusalNumber (a .refusal)) 0 (sym numbered ∙ h)) refl)
+  abbrev answering : Answer → Filled × List (List ℕ)
+  answering a = cond (passed (a .refusal)) (filling (allWords (a .records)) before) (refusing (a .refusal) before)
 
--- a set has room for what it counts
-pub room : (profile : Profile) (esr : ℕ) {a : Answer} → a ≡ answerBy profile esr → length (a .records .items) ≡ setRoom → a .records .count ≤ setRoom
-room profile esr is = subst (λ (x : Answer). length (x .records .items) ≡ setRoom → x .records .count ≤ setRoom) (sym is) (profile-room profile esr)
+  pub judged-decodes : judgedFilling f esr before ≡ decoding profile esr before
+  unfolding judgedFilling decoding refused accepted
+  judged-decodes = by (eqb (refusalNumber f) 0) refl
+    where
+      by : (b : Bool) → eqb (refusalNumber f) 0 ≡ b → cond b (filling (map wordsOf (readings esr)) before) (refusing f before) ≡ answering (answerBy profile esr)
+      by true e = ap (λ (l : List (List ℕ)). filling l before) (sym read-words) ∙ ap answering (yes (eqb-true (refusalNumber f) 0 e))
+      by false e = ap (λ (b : Bool). cond b (filling (allWords (recordsOf [])) before) (refusing f before)) (sym e) ∙ ap answering (no (eqb-false (refusalNumber f) 0 e))
 
--- a record's slot among those of all records of a set
-pub slot-at : (s : Records) (i : ℕ) → i < s .count
-    → wordsOf (getD (s .items) i noRecord) ≡ getD (allWords s) i (wordsOf noRecord)
-slot-at s i h =
-    sym (List·getD-map wordsOf (take (s .count) (s .items)) i noRecord ∙ ap wordsOf (getD-take (s .count) (s .items) i noRecord h))
+-- what is filled, by the test of the judgement
+module _ (f : Refusal) (esr : ℕ) (before : List (List ℕ)) {number : ℕ} (numbered : number ≡ refusalNumber f) where
+  pub fill-refused : {r : Filled} → (number ≡ 0 → ⊥) → r ≡ filledOf f 0 → (r, before) ≡ judgedFilling f esr before
+  unfolding judgedFilling
+  fill-refused h e = ap (λ (x : Filled). (x, before)) e ∙ rw (ne-eqb (refusalNumber f) 0 (λ z. h (numbered ∙ z))) refl
 
--- all are there where a set has room for what it counts
-pub slots-count : (s : Records) → length (s .items) ≡ setRoom → s .count ≤ setRoom → length (allWords s) ≡ s .count
-slots-count s slots room =
-    length-map (take (s .count) (s .items)) wordsOf ∙ length-take-le (s .count) (s .items) (omega arith)
+  pub fill-read : number ≡ 0 → filling (map wordsOf (readings esr)) before ≡ judgedFilling f esr before
+  unfolding judgedFilling
+  fill-read h = rw (eq-eqb (refusalNumber f) 0 (sym numbered ∙ h)) refl
+
+-- what the engine put, where there is room and where there is none
+module _ (content before after : List (List ℕ)) (count : ℕ) (put : (count, after) ≡ putting content before) where
+  pub put-count : count ≡ length content
+  unfolding putting
+  put-count = ap (λ (r : ℕ × List (List ℕ)). r .0) put
+
+  held : (b : Bool) → leb (length content) (length before) ≡ b → after ≡ cond b (front content before) before
+  unfolding putting
+  held b e = ap (λ (r : ℕ × List (List ℕ)). r .1) put ∙ ap (λ (x : Bool). cond x (front content before) before) e
+
+  pub put-none : length before < count → after ≡ before
+  put-none h = held false (lt-leb (length content) (length before) (omega (arith, put-count)))
+
+  pub put-front : count ≤ length before → after ≡ front content before
+  put-front h = held true (le-leb (length content) (length before) (omega (arith, put-count)))

@@ -23,7 +23,8 @@ use Rattle.strict.specs.Strict.{answerBy}
 use Rattle.strict.specs.declared.Profile.{Profile}
 use Rattle.capi.specs.Answers.{filledOf, entryAnswer}
 use Rattle.capi.specs.Buffers.{filling, filledWith}
-use Rattle.capi.specs.Words.{wordsOf, allWords, decoding}
+use Rattle.engine.specs.Words.{wordsOf}
+use Rattle.capi.specs.Words.{allWords, decoding}
 use Rattle.capi.specs.declared.Filled.{Filled}
 
 -- A caller's array.

@@ -4,16 +4,13 @@
 ghost use Prim.Native.Nat.{_≤_};
 ghost use Rattle.capi.specs.Answers.{filledOf};
 ghost use Rattle.capi.specs.Buffers.{front};
-ghost use Rattle.capi.specs.Words.{allWords, decoding, wordsOf};
+ghost use Rattle.capi.specs.Words.{decoding, judgedFilling};
 ghost use Rattle.capi.specs.Promises.{BinaryFilled, RecordsFilled, EntryAnswered, LineFilled, ListingFilled, MakeAnswered, MessageFilled, NumberAnswered, ReadAnswered, StrictlyFilled, SurveyAnswered, TextFilled, ValueFilled, WalkAnswered};
-ghost use Rattle.records.specs.Sets.{setRoom};
 ghost use Rattle.refusals.specs.Refusals.{passed};
 ghost use Rattle.texts.specs.Pool.{bytesAt};
 ghost use lib.ListN.{length};
 ghost use mathlib.Core.Bool.{cond};
 ghost use mathlib.Core.Path.{_≡_};
-use records::Record;
-use records::Records;
 use refusals::Reason;
 use refusals::Refusal;
 use strict::Profile;
@@ -110,41 +107,17 @@ fn filled_by_text(written: Written) -> Filled
     filled_of(refusal, written.bytes)
 }
 
-// A record as two words, the second with all but the value: from low bits to high, as its fields lie in a little-endian machine.
-fn words(item: Record) -> [u64; 2]
-    ensures { λ r. ⌜ r ≡ wordsOf item ⌝ }
+// The records of a value that was judged: none where it is refused, else each written once, into the caller's own slots.
+fn fill(refusal: Refusal, esr: u64, slots: &mut [[u64; 2]]) -> Filled
+    ensures { λ r. ⌜ (r, now (slots .exit)) ≡ judgedFilling refusal esr (now (slots .entry)) ⌝ }
 {
-    let mark = item.mark;
-    let codes = item.name as u64 + item.text as u64 * 0x1_0000 + item.long as u64 * 0x1_0000_0000;
-    let bits = item.start as u64 + item.width as u64 * 0x100 + mark.number() as u64 * 0x1_0000;
-    [item.value, codes + bits * 0x100_0000_0000]
-}
-
-fn put_records(records: Records, slots: &mut [[u64; 2]])
-    requires { ⌜ (records .count ≤ setRoom) × (records .count ≤ length (now slots)) ⌝ }
-    ensures { λ _. ⌜ (length (allWords records) ≡ records .count) × (now (slots .exit) ≡ front (allWords records) (now (slots .entry))) ⌝ }
-{
-    let mut i: usize = 0;
-    while i < records.count {
-        let item = records.items[i];
-        slots[i] = words(item);
-        i += 1;
-    }
-}
-
-fn decode_into(profile: Profile, esr: u64, slots: &mut [[u64; 2]]) -> Filled
-    ensures { λ r. ⌜ (r, now (slots .exit)) ≡ decoding profile esr (now (slots .entry)) ⌝ }
-{
-    let answer = decode_by(profile, esr);
-    let refusal = answer.refusal;
     if refusal.number() != 0 {
         return filled_of(refusal, 0);
     }
-    let count = answer.records.count;
+    let count = engine::slots::put_records(esr, slots);
     if slots.len() < count {
         return filled_of(Refusal::carrying(Reason::ShortBuffer, count as u64), 0);
     }
-    put_records(answer.records, slots);
     filled_of(Refusal::NONE, count)
 }
 
@@ -152,7 +125,15 @@ fn decode_into(profile: Profile, esr: u64, slots: &mut [[u64; 2]]) -> Filled
 pub extern "C" fn esr_decode(esr: u64, slots: &mut [[u64; 2]]) -> Filled
     ensures { λ r. ⌜ RecordsFilled (esr, now (slots .entry)) (r, now (slots .exit)) ⌝ }
 {
-    decode_into(Profile::Ordinary, esr, slots)
+    fill(engine::judge(esr), esr, slots)
+}
+
+fn fill_by(profile: Profile, esr: u64, slots: &mut [[u64; 2]]) -> Filled
+    ensures { λ r. ⌜ (r, now (slots .exit)) ≡ decoding profile esr (now (slots .entry)) ⌝ }
+{
+    let answer = decode_by(profile, esr);
+    let refusal = answer.refusal;
+    fill(refusal, esr, slots)
 }
 
 // Any number but 0 says that the core has nested virtualisation.
@@ -161,9 +142,9 @@ pub extern "C" fn esr_decode_strict(esr: u64, nested: u8, slots: &mut [[u64; 2]]
     ensures { λ r. ⌜ StrictlyFilled (esr, nested, now (slots .entry)) (r, now (slots .exit)) ⌝ }
 {
     if nested == 0 {
-        return decode_into(Profile::Strict, esr, slots);
+        return fill_by(Profile::Strict, esr, slots);
     }
-    decode_into(Profile::Nested, esr, slots)
+    fill_by(Profile::Nested, esr, slots)
 }
 
 fn write_text(code: u16, buf: &mut [u8])

@@ -81,6 +81,16 @@ pub rows-done : (answers n k : ℕ) → k ≡ 0 → rowsFrom answers n k ≡ []
 unfolding rowsFrom
 rows-done answers n k e = rw e refl
 
+pub rows-le : (answers n k : ℕ) → length (rowsFrom answers n k) ≤ k
+unfolding rowsFrom
+rows-le answers n zero = omega arith
+rows-le answers n (suc k) = by (applies answers (rowWord n)) (rows-le answers (suc n) k)
+  where
+    by : (b : Bool) → length (rowsFrom answers (suc n) k) ≤ k
+        → length (cond b (rowIn (rowWord n) ∷ rowsFrom answers (suc n) k) (rowsFrom answers (suc n) k)) ≤ suc k
+    by true h = omega arith
+    by false h = omega arith
+
 module _ (answers n k w : ℕ) (more : 0 < k) (is : w ≡ rowWord n) where
   rows-step : rowsFrom answers n k ≡ cond (applies answers w) (rowIn w ∷ rowsFrom answers (n + 1) (k - 1)) (rowsFrom answers (n + 1) (k - 1))
   unfolding rowsFrom

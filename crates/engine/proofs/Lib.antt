@@ -1,3 +1,5 @@
 pub mod Laws
 pub mod Rows
+pub mod Direct
+pub mod Filling
 pub mod Decides

@@ -3,8 +3,8 @@ use Prim.Native.Nat.{ℕ, zero, suc, _*_, _/_, _^_}
 use mathlib.Core.Bool.{Bool, cond, not, _&&_}
 use mathlib.Core.List.{List, [], _∷_, _++_, map}
 use lib.Bits.{bitAnd}
-use lib.Dec.{eqb}
-use Rattle.promise.specs.Member.{member}
+use lib.Dec.{eqb, ltb}
+use Rattle.texts.specs.Rules.{systemRegister}
 use Rattle.refusals.specs.Refusals.{carrying, noRefusal}
 use Rattle.refusals.specs.declared.Reason.the-variants.{InvalidEc}
 use Rattle.refusals.specs.declared.Refusal.{Refusal}
@@ -35,6 +35,10 @@ rowIn w =
 -- a row is there where those of the tests that its conditions name hold that must, and no others
 unfoldable pub applies : ℕ → ℕ → Bool
 applies answers w = eqb (bitAnd answers (byteOf w 1)) (byteOf w 2)
+
+-- a row that is read with no test: its field lies within 64 bits, and its rule speaks of the field's own value
+abbrev pub direct : ℕ → Bool
+direct w = ltb (byteOf w 5) 64 && (ltb (byteOf w 6) 64 && not (eqb (byteOf w 3) (systemRegister .number)))
 
 -- The walks, under the answers that a value gives to the tests.
 

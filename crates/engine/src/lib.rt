@@ -1,15 +1,19 @@
 // The engine: a walk over packed rows of the one table, under the tests that an ISS passes. It knows no layout by name.
 ghost use Prim.Native.Nat.{_<_};
-ghost use Rattle.engine.specs.Engine.{applies, byteOf, failureFrom, failureOf, recordsBy, rowIn, topsOf};
+ghost use Rattle.engine.specs.Engine.{applies, byteOf, direct, failureFrom, failureOf, recordsBy, rowIn, topsOf};
 ghost use Rattle.engine.specs.Engine as engine;
 ghost use Rattle.engine.specs.Promises.{Judged, Walked};
 ghost use Rattle.engine_table.specs.Packed.{answersOf};
 ghost use Rattle.records.specs.Bits.{fieldOf};
+ghost use Rattle.records.specs.Rows.{valueIn};
 ghost use Rattle.records.specs.Sets.{recordsOf};
+ghost use Rattle.texts.specs.Pool as pool;
+ghost use lib.Dec.{T};
 ghost use mathlib.Core.Path.{_≡_};
 use engine_table::checks;
 use engine_table::places;
 use engine_table::rows;
+use engine_table::rules;
 use records::Records;
 use records::Row;
 use records::kinds as k;
@@ -17,6 +21,7 @@ use refusals::Reason;
 use refusals::Refusal;
 use texts::names as n;
 
+pub mod slots;
 pub mod top;
 
 fn byte(word: u64, at: u8) -> u8
@@ -63,13 +68,41 @@ fn answers_of(iss: u64) -> u64
     bits + 8 * bit(0x1_0000, status) + 16 * bit(0x2_0000, status) + 32 * bit(0xFD_0000, status)
 }
 
+// A row's field of a value. The rows of the table lie within 64 bits, so that nothing is tested.
+fn value_in(word: u64, v: u64) -> u64
+    requires { ⌜ T (direct word) ⌝ }
+    ensures { λ r. ⌜ r ≡ valueIn v (rowIn word) ⌝ }
+{
+    let start = records::field(word, 40, 8);
+    let width = records::field(word, 48, 8);
+    (v >> start) & ((1 << width) - 1)
+}
+
+// Whether a rule has a text for a value.
+fn describes(rule: u8, value: u64) -> bool
+    ensures { λ r. ⌜ r ≡ pool.describes rule value ⌝ }
+{
+    let values = rules::values_of(rule);
+    value < 64 && (values >> value) & 1 == 1
+}
+
+// Whether a row applies and its field is not as it asks.
 fn fails(answers: u64, iss: u64, word: u64) -> bool
+    requires { ⌜ T (direct word) ⌝ }
     ensures { λ r. ⌜ r ≡ engine.fails answers iss word ⌝ }
 {
     if !applies(answers, word) {
         return false;
     }
-    !row_in(word).meets(iss)
+    let value = value_in(word, iss);
+    let kind = byte(word, 7);
+    if kind % k::MARKS == k::CHECKED {
+        return value != 0;
+    }
+    if kind % k::MARKS == k::CODED {
+        return !describes(byte(word, 3), value);
+    }
+    false
 }
 
 // What the first row that fails answers, in the order of the checks: the rows' indices are the bytes of a number.

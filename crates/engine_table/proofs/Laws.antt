@@ -15,9 +15,12 @@ row-count : length rowWords ≡ 133
 unfolding rowWords layouts res0 wf mcr mcrr ldc sve ld64b bti pauth hvc brk fp breakpoint softwareStep watchpoint instructionAbort dataAbort serror msr
 row-count = refl
 
-pub past-rows : (i : ℕ) → 133 ≤ i → 0 ≡ rowWord i
+pub past-last : (i : ℕ) → length rowWords ≤ i → 0 ≡ rowWord i
 unfolding rowWord
-past-rows i h = let l : length rowWords ≤ i = omega (arith, row-count) in sym (List·getD-eq-default rowWords 0 l)
+past-last i h = sym (List·getD-eq-default rowWords 0 h)
+
+pub past-rows : (i : ℕ) → 133 ≤ i → 0 ≡ rowWord i
+past-rows i h = past-last i (omega (arith, row-count))
 
 -- no layout serves a class of more than six bits
 abbrev sixBits : ℕ → Served → Bool

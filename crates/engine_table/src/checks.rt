@@ -1,5 +1,5 @@
 // The rows that each class checks, by their indices, in the order of the checks.
-// Written by tools/rows from crates/tables/specs; the prover shows that it is what specs/Packed.antt computes from them.
+// Written by tools/rows from the definitions; the prover shows that it is what specs/ computes from them.
 ghost use Rattle.engine_table.specs.Promises.{CheckWord};
 
 // The checks of a class; of one that no layout serves, none.

@@ -1,5 +1,5 @@
 // Where the rows of each class stand in the table, a packed number to a class.
-// Written by tools/rows from crates/tables/specs; the prover shows that it is what specs/Packed.antt computes from them.
+// Written by tools/rows from the definitions; the prover shows that it is what specs/ computes from them.
 ghost use Rattle.engine_table.specs.Promises.{PlaceWord};
 
 // The place of a class; of one that no layout serves, 0.

@@ -1,5 +1,5 @@
 // The rows of all layouts with their conditions, a packed number to a row.
-// Written by tools/rows from crates/tables/specs; the prover shows that it is what specs/Packed.antt computes from them.
+// Written by tools/rows from the definitions; the prover shows that it is what specs/ computes from them.
 ghost use Rattle.engine_table.specs.Promises.{RowWord};
 
 // The row of an index; past the last, 0.

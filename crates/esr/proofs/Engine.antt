@@ -7,7 +7,7 @@ use Prim.Native.Nat.{ℕ, suc, _+_, _*_, _/_, _%_, _≤_, _<_}
 use native.Mathlib.Omega.{arith}
 use lib.Dec.{T, eqb, leb, ltb, eqb→eq, leb→le, ltb→lt}
 use lib.ListN.{length}
-use borrow.Author.Tests.{eq-eqb, ne-eqb}
+use borrow.Author.Tests.{eq-eqb, ne-eqb, eqb-true, eqb-false}
 use Rattle.promise.specs.Member.{member}
 use Rattle.promise.proofs.Tests.{both-left, both-right, is-true}
 use Rattle.refusals.specs.Refusals.{refusalNumber, passed, carrying, noRefusal}
@@ -221,6 +221,32 @@ module _ (esr : ℕ) (f : Refusal) (is : f ≡ judgement esr) where
       sym (ap (λ (b : Bool). cond b (accepted (readings esr)) (refused f)) (eq-eqb (refusalNumber f) 0 h))
       ∙ ap (λ (g : Refusal). answerBy g (readings esr)) is
       ∙ engines-agree esr
+
+-- the answer by its own refusal: none of the engine's records where it is refused, and these where it is accepted
+module _ (esr : ℕ) where
+  abbrev number : ℕ
+  number = refusalNumber (answerOf esr .refusal)
+
+  by-judgement : ((refusalNumber (judgement esr) ≡ 0 → ⊥) → number ≡ refusalNumber (judgement esr)) × (refusalNumber (judgement esr) ≡ 0 → number ≡ 0)
+  unfolding refused accepted
+  by-judgement =
+      (λ h. sym (ap (λ (a : Answer). refusalNumber (a .refusal)) (engine-refuses esr (judgement esr) refl h)), λ z. sym (ap (λ (a : Answer). refusalNumber (a .refusal)) (engine-accepts esr (judgement esr) refl z)))
+
+  judged-by : (b : Bool) → eqb (refusalNumber (judgement esr)) 0 ≡ b → ((number ≡ 0 → ⊥) → refused (answerOf esr .refusal) ≡ answerOf esr) × (number ≡ 0 → accepted (readings esr) ≡ answerOf esr)
+  unfolding refused
+  judged-by true e =
+      let z = eqb-true (refusalNumber (judgement esr)) 0 e in
+      (λ h. absurd (h (by-judgement .1 z)), λ _. engine-accepts esr (judgement esr) refl z)
+  judged-by false e =
+      let h = eqb-false (refusalNumber (judgement esr)) 0 e in
+      let is = engine-refuses esr (judgement esr) refl h in
+      (λ _. ap (λ (a : Answer). refused (a .refusal)) (sym is) ∙ is, λ z. absurd (h (sym (by-judgement .0 h) ∙ z)))
+
+  pub answer-refuses : (number ≡ 0 → ⊥) → refused (answerOf esr .refusal) ≡ answerOf esr
+  answer-refuses = judged-by _ refl .0
+
+  pub answer-accepts : number ≡ 0 → accepted (readings esr) ≡ answerOf esr
+  answer-accepts = judged-by _ refl .1
 
 -- #113: "prove that both give the same records and refusals on every value, once over all layouts". Whatever the engine's two functions give, and the decoder in
 -- the Rust's shape, by their promises: the decoder answers with the engine's refusal, and where there is none, with its records.

@@ -1,3 +1,4 @@
 pub mod Laws
 pub mod Lines
+pub mod Engine
 pub mod Decides

@@ -1,10 +1,13 @@
 -- The invariant: what is left of the checks answers as all of them do.
-use mathlib.Core.Path.{_≡_, sym, ap, _∙_}
+use mathlib.Core.Path.{_≡_, sym, ap, _∙_, subst}
+use Prim.Native.Nat.{ℕ}
 use native.Mathlib.Omega.{arith}
+use lib.Dec.{T}
 use Rattle.records.specs.Rows.{refusalOf}
 use Rattle.engine_table.specs.Packed.{rowWord}
-use Rattle.engine.specs.Engine.{failureFrom}
+use Rattle.engine.specs.Engine.{direct, failureFrom}
 use Rattle.engine.proofs.Laws.{check-fails, check-passes, checks-done}
+use Rattle.engine.proofs.Direct.{row-direct}
 use borrow.Author.Needs.{needs}
 use Rattle.engine.proofs.first_failure.Statement.{statement}
 use Rattle.engine.proofs.first_failure.Tie as tie
@@ -54,7 +57,7 @@ first-failure-spec =
     (λ c κs. search needs)
     (λ c. search needs)
     (λ c κs. search needs)
-    (λ c κs. search needs)
+    (λ c κs. let w = c .before in subst (λ (n : ℕ). T (direct n)) (sym (c .row-word .ensures)) (row-direct (w .byte .result)))
     (λ c κs. search needs)
     (λ c κs. search needs)
     returns

@@ -4,10 +4,10 @@ use mathlib.Core.List.{[], _∷_}
 use mathlib.Core.Path.{ap}
 use native.Mathlib.Omega.{arith}
 use Rattle.records.specs.declared.Record.{Record}
-use Rattle.capi.specs.Words.{wordsOf}
+use Rattle.engine.specs.Words.{wordsOf}
 use borrow.Author.Needs.{needs}
-use Rattle.capi.proofs.words.Statement.{statement}
-use Rattle.capi.proofs.words.Tie as tie
+use Rattle.engine.proofs.slots.words.Statement.{statement}
+use Rattle.engine.proofs.slots.words.Tie as tie
 
 returns : tie.Need-returns
 unfolding wordsOf
