@@ -59,7 +59,7 @@ module _ (all : ℕ) (final : List (List ℕ)) (v : ℕ) (slots : List (List ℕ
         counted = omega (arith, f .counted);
         room = omega (arith, f .room, length-set slots next x);
         whole =
-          ap₂ (λ (y : List ℕ) (n : ℕ). sets (set slots next y) n (map (slotOf v) left)) e (add-one next) ∙ f .whole;
+            ap₂ (λ (y : List ℕ) (n : ℕ). sets (set slots next y) n (map (slotOf v) left)) e (add-one next) ∙ f .whole;
       }
 
   pub filled : Fills all final v slots next [] → (next ≡ all) × (slots ≡ final)
@@ -108,10 +108,10 @@ module _ (esr iss rule : ℕ) (rows : List Row) where
         let n : ℕ = length content in
         let whole : leb n (length before) ≡ true = le-leb n (length before) (omega (arith, five-and)) in
         let held : after ≡ content ++ drop n before =
-            a
-            ∙ sym (sets-after before (map (slotOf esr) (topRows rule)) (map (slotOf iss) rows) 0)
-            ∙ ap (sets before 0) (sym all-slots)
-            ∙ sets-eq content before 0 (omega (arith, five-and))
-            ∙ ap (λ (k : ℕ). content ++ drop k before) (zero-add n) in
+        a
+        ∙ sym (sets-after before (map (slotOf esr) (topRows rule)) (map (slotOf iss) rows) 0)
+        ∙ ap (sets before 0) (sym all-slots)
+        ∙ sets-eq content before 0 (omega (arith, five-and))
+        ∙ ap (λ (k : ℕ). content ++ drop k before) (zero-add n) in
         ap₂ (λ (k : ℕ) (l : List (List ℕ)). (k, l)) (e ∙ sym five-and) held
         ∙ ap (λ (b : Bool). (n, cond b (content ++ drop n before) before)) (sym whole)

@@ -5,8 +5,10 @@ ghost use Rattle.engine.specs.Engine as engine;
 ghost use Rattle.engine.specs.Promises.{Judged, Walked};
 ghost use Rattle.engine_table.specs.Packed.{answersOf};
 ghost use Rattle.records.specs.Bits.{fieldOf};
-ghost use Rattle.records.specs.Rows.{valueIn};
+ghost use Rattle.records.specs.Kinds.{kindOf, markOf};
+ghost use Rattle.records.specs.Rows.{recordOf, valueIn};
 ghost use Rattle.records.specs.Sets.{recordsOf};
+ghost use Rattle.tables.specs.Tables.{issUnder};
 ghost use Rattle.texts.specs.Pool as pool;
 ghost use lib.Dec.{T};
 ghost use mathlib.Core.Path.{_≡_};
@@ -14,12 +16,15 @@ use engine_table::checks;
 use engine_table::places;
 use engine_table::rows;
 use engine_table::rules;
+use records::Mark;
+use records::Record;
 use records::Records;
 use records::Row;
 use records::kinds as k;
 use refusals::Reason;
 use refusals::Refusal;
 use texts::names as n;
+use texts::rules as r;
 
 pub mod slots;
 pub mod top;
@@ -147,10 +152,41 @@ pub fn judge(esr: u64) -> Refusal
     failure_of(records::field(esr, 26, 6), records::field(esr, 0, 25))
 }
 
-// The top records, ISS's under the rule that its layout has for it.
-fn top_records(esr: u64, rule: u8) -> Records
-    ensures { λ r. ⌜ r ≡ recordsOf (topsOf esr rule) ⌝ }
+fn mark_in(kind: u8) -> Mark
+    ensures { λ r. ⌜ r ≡ markOf (kindOf kind) ⌝ }
 {
+    match kind % k::MARKS {
+        k::FREE => Mark::Free,
+        k::CODED => Mark::Coded,
+        k::CHECKED => Mark::Checked,
+        _ => Mark::Unchecked,
+    }
+}
+
+// A row's record of a value.
+fn record_in(word: u64, v: u64) -> Record
+    requires { ⌜ T (direct word) ⌝ }
+    ensures { λ r. ⌜ r ≡ recordOf v (rowIn word) ⌝ }
+{
+    let value = value_in(word, v);
+    Record {
+        value,
+        name: byte(word, 0) as u16,
+        text: slots::text_code(byte(word, 3), value) as u16,
+        long: byte(word, 4),
+        start: byte(word, 5),
+        width: byte(word, 6),
+        mark: mark_in(byte(word, 7)),
+    }
+}
+
+// ISS itself, by the rule that the layout has for it.
+fn iss_record(esr: u64, rule: u8) -> Record
+    ensures { λ r. ⌜ r ≡ recordOf esr (issUnder rule) ⌝ }
+{
+    if rule == r::PLAIN {
+        return record_in(slots::ISS, esr);
+    }
     let iss = Row {
         start: 0,
         width: 25,
@@ -159,12 +195,19 @@ fn top_records(esr: u64, rule: u8) -> Records
         rule,
         kind: k::FREE,
     };
+    iss.get(esr)
+}
+
+// The top records, ISS's under the rule that its layout has for it.
+fn top_records(esr: u64, rule: u8) -> Records
+    ensures { λ r. ⌜ r ≡ recordsOf (topsOf esr rule) ⌝ }
+{
     let mut out = Records::empty();
-    out.items[0] = top::RES0.get(esr);
-    out.items[1] = top::ISS2.get(esr);
-    out.items[2] = top::EC.get(esr);
-    out.items[3] = top::IL.get(esr);
-    out.items[4] = iss.get(esr);
+    out.items[0] = record_in(slots::RES0, esr);
+    out.items[1] = record_in(slots::ISS2, esr);
+    out.items[2] = record_in(slots::EC, esr);
+    out.items[3] = record_in(slots::IL, esr);
+    out.items[4] = iss_record(esr, rule);
     out.count = 5;
     out
 }
@@ -181,7 +224,7 @@ fn all_records(esr: u64, class: u64, iss: u64) -> Records
     while 0 < left {
         let word = rows::row_word(at);
         if applies(answers, word) {
-            let item = row_in(word).get(iss);
+            let item = record_in(word, iss);
             let next = out.count;
             out.items[next] = item;
             out.count = next + 1;

@@ -1,8 +1,8 @@
 // The engine's records as words, straight into lent slots: each is written once, and no set stands in between.
 ghost use Prim.Native.Nat.{_+_, _<_, _≤_};
 ghost use Rattle.engine.specs.Engine.{direct, rowIn, rowsFrom};
-ghost use Rattle.engine.specs.Promises.{Put};
-ghost use Rattle.engine.specs.Words.{slotOf, wordsOf};
+ghost use Rattle.engine.specs.Promises.{Put, Words};
+ghost use Rattle.engine.specs.Words.{slotOf};
 ghost use Rattle.tables.specs.Tables.{issUnder, topRows};
 ghost use Rattle.texts.specs.Pool.{textCode};
 ghost use lib.Dec.{T, leb};
@@ -14,29 +14,32 @@ use crate::answers_of;
 use crate::applies;
 use crate::byte;
 use crate::describes;
+use crate::iss_record;
 use crate::value_in;
 use engine_table::places;
 use engine_table::rows;
 use engine_table::rules;
 use records::Record;
 use records::Records;
-use records::Row;
 use records::kinds as k;
-use texts::names as n;
 use texts::rules as r;
 
 // The top rows, packed as those of the table.
-const RES0: u64 = 0x21B_2502_0000_0001;
-const ISS2: u64 = 0x5_2000_0000_0003;
-const EC: u64 = 0x106_1A05_2100_0004;
-const IL: u64 = 0x1_1907_0100_0006;
-const ISS: u64 = 0x19_0009_0000_0008;
+pub(crate) const RES0: u64 = 0x21B_2502_0000_0001;
+
+pub(crate) const ISS2: u64 = 0x5_2000_0000_0003;
+
+pub(crate) const EC: u64 = 0x106_1A05_2100_0004;
+
+pub(crate) const IL: u64 = 0x1_1907_0100_0006;
+
+pub(crate) const ISS: u64 = 0x19_0009_0000_0008;
 
 // How many they are.
 const TOP: usize = 5;
 
 // The code of a rule's text of a value; 0 for none.
-fn text_code(rule: u8, value: u64) -> u64
+pub(crate) fn text_code(rule: u8, value: u64) -> u64
     ensures { λ r. ⌜ (r ≡ textCode rule value) × (r < 0x10000) ⌝ }
 {
     if describes(rule, value) {
@@ -63,8 +66,8 @@ fn slot(word: u64, v: u64) -> [u64; 2]
 }
 
 // A record as two words, the second with all but the value: from low bits to high, as its fields lie in a little-endian machine.
-fn words(item: Record) -> [u64; 2]
-    ensures { λ r. ⌜ r ≡ wordsOf item ⌝ }
+pub fn words(item: Record) -> [u64; 2]
+    ensures { λ r. ⌜ Words item r ⌝ }
 {
     let mark = item.mark;
     let codes = item.name as u64 + item.text as u64 * 0x1_0000 + item.long as u64 * 0x1_0000_0000;
@@ -79,15 +82,7 @@ fn iss_slot(esr: u64, rule: u8) -> [u64; 2]
     if rule == r::PLAIN {
         return slot(ISS, esr);
     }
-    let iss = Row {
-        start: 0,
-        width: 25,
-        name: n::ISS,
-        long: n::ISS_LONG,
-        rule,
-        kind: k::FREE,
-    };
-    words(iss.get(esr))
+    words(iss_record(esr, rule))
 }
 
 fn top_slots(esr: u64, rule: u8, slots: &mut [[u64; 2]])

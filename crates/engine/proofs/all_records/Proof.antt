@@ -4,14 +4,15 @@ use mathlib.Core.List.{List, _∷_}
 use mathlib.Core.Logic.{⊎-elim}
 use Prim.Native.Nat.{ℕ, _+_, _-_, _≤_, _<_}
 use native.Mathlib.Omega.{arith}
+use lib.Dec.{T}
 use lib.ListN.{length}
 use Rattle.records.proofs.Laws.{field-lt}
-use Rattle.records.specs.Rows.{recordOf}
 use Rattle.records.specs.Sets.{recordsOf}
 use Rattle.records.specs.declared.Records.{Records}
 use Rattle.records.specs.declared.Row.{Row}
 use Rattle.engine_table.specs.Packed.{placeWord}
-use Rattle.engine.specs.Engine.{rowIn, rowsFrom, firstIn, countIn, ruleIn, topsOf, rowsOf, recordsBy}
+use Rattle.engine.specs.Engine.{direct, rowIn, rowsFrom, firstIn, countIn, ruleIn, topsOf, rowsOf, recordsBy}
+use Rattle.engine.proofs.Direct.{row-direct}
 use Rattle.engine.proofs.Laws.{Writes, begun, writes-one, written-all, rows-done, row-there, row-over}
 use Rattle.engine.proofs.Rows.{few-rows}
 use borrow.Author.Needs.{needs}
@@ -46,23 +47,28 @@ loop-holds c =
     )
 
 -- a row that applies is the first of those that are left
-module _ (c : tie.After-get Inv-loop μ-loop) where
-  there : let s = c .before .before .before in
+module _ (c : tie.After-record-in Inv-loop μ-loop) where
+  there : let s = c .before .before in
       let l = s .before .before .before in
       rowsFrom (l .before .before .before .before .before .answers-of .result) (l .loop .at) (l .loop .left)
       ≡ rowIn (s .before .row-word .result) ∷ rowsFrom (l .before .before .before .before .before .answers-of .result) (l .loop .at + 1) (l .loop .left - 1)
   there =
-      let s = c .before .before .before in
+      let s = c .before .before in
       let l = s .before .before .before in
       row-there (l .before .before .before .before .before .answers-of .result) (l .loop .at) (l .loop .left) (s .before .row-word .result) (omega arith)
-      (s .before .row-word .ensures) (sym (s .applies .ensures) ∙ c .before .before .if1 .taken)
+      (s .before .row-word .ensures) (sym (s .applies .ensures) ∙ c .before .if1 .taken)
 
-  small : c .before .before .before .before .before .before .loop .out .count < 19
+  small : c .before .before .before .before .before .loop .out .count < 19
   small =
-      let l = c .before .before .before .before .before .before in
+      let l = c .before .before .before .before .before in
       let a = l .before .before .before .before .before .before .before .args in
       let w : _ = l .loop .inv .1 in
       omega (arith, ap length there, w .room)
+
+record-in-requires : tie.Need-record-in-requires Inv-loop μ-loop
+record-in-requires c κs =
+    let w = c .before .before in
+    subst (λ (n : ℕ). T (direct n)) (sym (w .row-word .ensures)) (row-direct (w .before .before .loop .at))
 
 mul-item : tie.Need-mul-item Inv-loop μ-loop
 mul-item c = omega (arith, small c)
@@ -84,11 +90,11 @@ loop-again c =
       omega arith,
       ⊎-elim
           (λ w.
-          let g : tie.After-get Inv-loop μ-loop = record { before = record { before = record { before = p; if1 = w .0 }; row-in = w .1 }; get = w .2 } in
-          subst (λ (s : Records). Writes all (a .iss) s rest) (sym (w .3))
-          (writes-one all (a .iss) (l .loop .out) (rowIn (p .before .row-word .result)) rest (w .2 .result)
+          let g : tie.After-record-in Inv-loop μ-loop = record { before = record { before = p; if1 = w .0 }; record-in = w .1 } in
+          subst (λ (s : Records). Writes all (a .iss) s rest) (sym (w .2))
+          (writes-one all (a .iss) (l .loop .out) (rowIn (p .before .row-word .result)) rest (w .1 .result)
           (subst (Writes all (a .iss) (l .loop .out)) (there g) (l .loop .inv .1))
-          (w .2 .ensures ∙ ap (recordOf (a .iss)) (w .1 .ensures))))
+          (w .1 .ensures)))
           (λ w.
           let over : _ =
           row-over (v .answers-of .result) (l .loop .at) (l .loop .left) (p .before .row-word .result) (omega arith) (p .before .row-word .ensures)
@@ -121,8 +127,7 @@ all-records-spec =
     loop-holds
     (λ c κs. search needs)
     (λ c κs. search needs)
-    (λ c κs. search needs)
-    (λ c κs. search needs)
+    record-in-requires
     mul-item
     element-set-from-item
     add-out

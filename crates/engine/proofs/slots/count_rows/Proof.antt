@@ -25,15 +25,15 @@ loop-again c =
     ⊎-elim
     (λ w.
     let e : _ =
-        ap length
-        (row-there (a .answers) (l .loop .at) (l .loop .left) (p .before .row-word .result) (omega arith) (p .before .row-word .ensures)
-        (sym (p .applies .ensures) ∙ w .0 .taken)) in
+    ap length
+    (row-there (a .answers) (l .loop .at) (l .loop .left) (p .before .row-word .result) (omega arith) (p .before .row-word .ensures)
+    (sym (p .applies .ensures) ∙ w .0 .taken)) in
     (omega arith, omega arith, omega arith))
     (λ w.
     let e : _ =
-        ap length
-        (row-over (a .answers) (l .loop .at) (l .loop .left) (p .before .row-word .result) (omega arith) (p .before .row-word .ensures)
-        (sym (p .applies .ensures) ∙ w .0 .left)) in
+    ap length
+    (row-over (a .answers) (l .loop .at) (l .loop .left) (p .before .row-word .result) (omega arith) (p .before .row-word .ensures)
+    (sym (p .applies .ensures) ∙ w .0 .left)) in
     (omega arith, omega arith, omega arith))
     (c .if1 .came)
 

@@ -1,8 +1,6 @@
--- A plain ISS is the packed row; any other is made by its row.
+-- A plain ISS is the packed row; any other is its record in words.
 use mathlib.Core.Path.{sym, ap, _∙_}
 use Prim.Native.Nat.{ℕ}
-use Rattle.texts.specs.Names.{names}
-use Rattle.texts.specs.Pool.{code, indexIn}
 use Rattle.records.specs.Bits.{fieldOf}
 use Rattle.tables.specs.Tables.{issUnder}
 use Rattle.engine.specs.Words.{slotOf, wordsOf}
@@ -21,8 +19,7 @@ returns c =
     c .slot .ensures ∙ ap (slotOf (a .esr)) ISS ∙ ap (λ (n : ℕ). slotOf (a .esr) (issUnder n)) (sym (c .before .if1 .taken))
 
 returns-2 : tie.Need-returns-2
-unfolding code indexIn names
-returns-2 c = c .words .ensures ∙ ap wordsOf (c .before .get .ensures)
+returns-2 c = c .words .ensures ∙ ap wordsOf (c .before .iss-record .ensures)
 
 pub iss-slot-spec : {M : Type 1} → statement M
 iss-slot-spec = tie.close (tie.spec slot-requires returns (λ c κs. search needs) (λ c κs. search needs) returns-2)

@@ -73,16 +73,16 @@ loop-again c =
     (λ w.
     let g : tie.After-slot Inv-loop μ-loop = record { before = record { before = p; if1 = w .0 }; slot = w .1 } in
     let more : Fills all final (a .iss) (set (l .loop .slots) (l .loop .next) (w .1 .result)) (l .loop .next + 1) rest =
-        fills-one all final (a .iss) (l .loop .slots) (l .loop .next) (rowIn (p .before .row-word .result)) rest (w .1 .result)
-        (subst (Fills all final (a .iss) (l .loop .slots) (l .loop .next)) (there g) (l .loop .inv .2)) (w .1 .ensures) in (
+    fills-one all final (a .iss) (l .loop .slots) (l .loop .next) (rowIn (p .before .row-word .result)) rest (w .1 .result)
+    (subst (Fills all final (a .iss) (l .loop .slots) (l .loop .next)) (there g) (l .loop .inv .2)) (w .1 .ensures) in (
       omega arith,
       ap length (w .2) ∙ length-set (l .loop .slots) (l .loop .next) (w .1 .result) ∙ l .loop .inv .1,
       moved (sym (w .2)) (sym (w .3)) more,
     ))
     (λ w.
     let over : _ =
-        row-over (a .answers) (l .loop .at) (l .loop .left) (p .before .row-word .result) (omega arith) (p .before .row-word .ensures)
-        (sym (p .applies .ensures) ∙ w .0 .left) in (
+    row-over (a .answers) (l .loop .at) (l .loop .left) (p .before .row-word .result) (omega arith) (p .before .row-word .ensures)
+    (sym (p .applies .ensures) ∙ w .0 .left) in (
       omega arith,
       ap length (w .1) ∙ l .loop .inv .1,
       moved (sym (w .1)) (sym (w .2)) (subst (Fills all final (a .iss) (l .loop .slots) (l .loop .next)) over (l .loop .inv .2)),

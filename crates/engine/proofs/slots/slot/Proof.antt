@@ -21,7 +21,7 @@ returns c =
     let v = t .before .before in
     let a = v .before .args in
     let text : t .text-code .result ≡ textOf (byteOf (a .word) 3) (valueIn (a .v) (rowIn (a .word))) =
-        t .text-code .ensures .0 ∙ ap₂ textCode (t .before .byte .ensures) (v .value-in .ensures) ∙ own-text (a .word) (v .before .pre) (valueIn (a .v) (rowIn (a .word))) in
+    t .text-code .ensures .0 ∙ ap₂ textCode (t .before .byte .ensures) (v .value-in .ensures) ∙ own-text (a .word) (v .before .pre) (valueIn (a .v) (rowIn (a .word))) in
     ap₂ (λ (x y : ℕ). x ∷ (y ∷ [])) (v .value-in .ensures) (omega (arith, marked-number (byteOf (a .word) 7)))
 
 pub slot-spec : {M : Type 1} → statement M
