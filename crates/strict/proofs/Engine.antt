@@ -22,7 +22,7 @@ ordinary-known : (esr : ℕ) → Known esr (answerOf esr)
 ordinary-known esr = (answer-refuses esr, answer-accepts esr)
 
 strict-known : (nested : Bool) (esr : ℕ) → Known esr (strictAnswerOf nested esr)
-unfolding strictAnswerOf
+unfolding strictAnswerOf refused
 strict-known nested esr =
     let own : Refusal = firstRefusal nested (listOf (answerOf esr .records)) in
     by own (passed (answerOf esr .refusal)) (passed own) refl

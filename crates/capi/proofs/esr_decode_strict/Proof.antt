@@ -19,13 +19,13 @@ returns : tie.Need-returns
 returns c =
     let i = c .before .before .before in
     let a = i .before .args in
-    c .before .decode-into .ensures ∙ ap (λ (p : Profile). decoding p (a .esr) (a .slots .now)) (without (a .nested) (i .if1 .taken))
+    c .before .fill-by .ensures ∙ ap (λ (p : Profile). decoding p (a .esr) (a .slots .now)) (without (a .nested) (i .if1 .taken))
 
 returns-2 : tie.Need-returns-2
 returns-2 c =
     let i = c .before .before .before in
     let a = i .before .args in
-    c .before .decode-into2 .ensures ∙ ap (λ (p : Profile). decoding p (a .esr) (a .slots .now)) (with-it (a .nested) (i .if1 .left))
+    c .before .fill-by2 .ensures ∙ ap (λ (p : Profile). decoding p (a .esr) (a .slots .now)) (with-it (a .nested) (i .if1 .left))
 
 pub esr-decode-strict-spec : {M : Type 1} → statement M
 esr-decode-strict-spec =
