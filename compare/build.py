@@ -55,12 +55,12 @@ dead_code = "deny"
 [workspace]
 """
 LIBRARY = '\n[lib]\nname = "{name}"\npath = "src/lib.rs"\n'
-LINKED = """fn main() {{
-    println!("cargo:rustc-link-search=native={folder}");
-    println!("cargo:rustc-link-lib=static=esr");
-    println!("cargo:rerun-if-changed={archive}");
-}}
-"""
+LINKED = """    println!("cargo:rustc-link-search=native={folder}");
+    println!("cargo:rustc-link-lib=static={library}");
+    println!("cargo:rerun-if-changed={archive}");"""
+# The decoder in the Rust's shape, which bench times beside the engine: a crate with one C function, which returns what esr_decode does.
+LAYOUTS = "bench_layouts"
+LAYOUTS_FUNCTION = "esr_decode_by_layouts"
 PROGRAM = '\n[[bin]]\nname = "{name}"\npath = "{path}"\n'
 
 
@@ -210,15 +210,39 @@ def program(name, folder, needs):
     keep(name, name)
 
 
+def linked(archives):
+    """The build script that tells cargo of archives."""
+    lines = [LINKED.format(folder=archive.parent, library=archive.stem[3:], archive=archive) for archive in archives]
+    return "\n".join(["fn main() {", *lines, "}"]) + "\n"
+
+
+def layouts_archive():
+    """Proves the decoder in the Rust's shape as a C function, and writes its archive for this processor, as tools/retarget.py does the other."""
+    tools = retarget.toolchain()
+    retarget.run("rt", "staticlib", LAYOUTS, cwd=TOP, env={**os.environ, **retarget.keeping(LAYOUTS)})
+    built = TOP / "target" / "staticlib" / f"lib{LAYOUTS}.a"
+    if platform.machine() == "x86_64":
+        return built
+    module = retarget.kept(LAYOUTS)
+    sizes = {LAYOUTS_FUNCTION: retarget.returned()["esr_decode"]}
+    text = retarget.gathered(retarget.retargeted(retarget.text_of(module, tools), "aarch64-unknown-none-elf", sizes))
+    archive = OUT / "aarch64" / built.name
+    archive.parent.mkdir(parents=True, exist_ok=True)
+    archive.unlink(missing_ok=True)
+    retarget.run(tools / "llvm-ar", "rcs", archive, retarget.compiled(module, "aarch64", text, retarget.BARE, tools))
+    return archive
+
+
 def sides(name, sources=None):
     """Builds the oracle, our archive and a program over both; answers the hashes of all three."""
     folder, hashes = oracle(sources)
     try:
         retarget.archives()
+        archive = retarget.ARCHIVES[platform.machine()]
+        archives = [archive, layouts_archive()] if name == "bench" else [archive]
     except retarget.Fault as fault:
         fail(fault)
-    archive = retarget.ARCHIVES[platform.machine()]
-    write(OUT / name / "build.rs", LINKED.format(folder=archive.parent, archive=archive))
+    write(OUT / name / "build.rs", linked(archives))
     program(name, folder, {"decoder": "by-01"})
     programs = hashlib.sha256(b"".join(path.read_bytes() for path in sorted((HERE / "sides").glob("*.rs")))).hexdigest()
     return {"rust": hashes["by-01"], "archive": hashlib.sha256(archive.read_bytes()).hexdigest(), "programs": programs}

@@ -4,7 +4,7 @@
 //!
 //! A round times each side in turn, 200 times over all inputs. Both sides are called through pointers that the compiler cannot see
 //! through, and every field of an answer is used. Before anything is timed the two sides' answers are compared. A line for each gives the
-//! medians over the rounds; the last three lines are our time over the Rust's.
+//! medians over the rounds, two more those of both engines, accepted and refused values apart; the last three lines are our time over the Rust's.
 
 #[allow(dead_code)]
 #[path = "../oracle/answers.rs"]
@@ -95,8 +95,25 @@ fn rust_decode(values: &[u64]) -> u64 {
     })
 }
 
+extern "C" {
+    fn esr_decode_by_layouts(esr: u64, slots: *mut capi::Record, length: usize) -> capi::Filled;
+}
+
+/// The decoder in the Rust's shape, one routine per layout. It writes into the slots that it is lent and nowhere else: that is proved of it.
+fn decode_by_layouts(esr: u64, slots: &mut [capi::Record]) -> capi::Filled {
+    unsafe { esr_decode_by_layouts(esr, slots.as_mut_ptr(), slots.len()) }
+}
+
 fn our_decode(values: &[u64]) -> u64 {
-    let call: fn(u64, &mut [capi::Record]) -> capi::Filled = black_box(capi::decode);
+    filled_by(capi::decode, values)
+}
+
+fn layouts_decode(values: &[u64]) -> u64 {
+    filled_by(decode_by_layouts, values)
+}
+
+fn filled_by(decode: fn(u64, &mut [capi::Record]) -> capi::Filled, values: &[u64]) -> u64 {
+    let call: fn(u64, &mut [capi::Record]) -> capi::Filled = black_box(decode);
     let mut slots = [EMPTY; capi::SLOTS];
     values.iter().fold(0, |sum, &esr| {
         let answer = call(esr, &mut slots);
@@ -175,12 +192,31 @@ fn timed<T: ?Sized>(name: &str, rounds: usize, inputs: &T, rust: fn(&T) -> u64, 
     our_median / rust_median
 }
 
+/// The Rust and both engines in turn, round by round, over the accepted values and over the refused ones: the medians.
+fn engines(rounds: usize, values: &[u64]) {
+    let (accepted, refused) = values.split_at(INPUTS / 2);
+    for (name, part) in [("accepted", accepted), ("refused", refused)] {
+        let mut times = [Vec::new(), Vec::new(), Vec::new()];
+        for _ in 0..rounds {
+            for (run, times) in [rust_decode, our_decode, layouts_decode].into_iter().zip(&mut times) {
+                times.push(seconds(run, part));
+            }
+        }
+        let [rust, engine, layouts] = times.map(|times| median(times) * 1e9 / (TIMES * part.len()) as f64);
+        println!("decode, {name}: the Rust {rust:.1} ns, the engine {engine:.1} ns, by layouts {layouts:.1} ns");
+    }
+}
+
 /// What is timed has to be the same: refusals and counts, listings, numbers.
 fn agree(values: &[u64], texts: &[String]) {
     let mut slots = [EMPTY; capi::SLOTS];
     let mut text = vec![0; 1 << 14];
     for &esr in values {
         let ours = capi::decode(esr, &mut slots);
+        let mut others = [EMPTY; capi::SLOTS];
+        let other = decode_by_layouts(esr, &mut others);
+        assert!((other.refusal, other.carried, other.count) == (ours.refusal, ours.carried, ours.count), "{esr:#x} is decoded otherwise by layouts");
+        assert!(others[..other.count] == slots[..ours.count], "{esr:#x} has other records by layouts");
         let listed = capi::listing(esr, &mut text);
         let told = (ours.refusal, ours.carried);
         match decode(esr) {
@@ -208,6 +244,7 @@ fn main() {
     let accepted = values.iter().filter(|&&esr| decode(esr).is_ok()).count();
     let numbers = texts.iter().filter(|text| parse_number(text).is_ok()).count();
     println!("{INPUTS} values of all classes and refusals, {accepted} accepted; {INPUTS} strings, {numbers} accepted; {TIMES} times each");
+    engines(rounds, &values);
     let ratios = [
         ("decode", timed("decode", rounds, &values[..], rust_decode, our_decode)),
         ("listing", timed("listing", rounds, &values[..], rust_listing, our_listing)),

@@ -4,7 +4,7 @@
 pub const SLOTS: usize = 19;
 
 #[repr(C)]
-#[derive(Clone, Copy, Default)]
+#[derive(Clone, Copy, Default, PartialEq)]
 pub struct Record {
     pub value: u64,
     pub name: u16,
