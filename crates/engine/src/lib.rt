@@ -163,7 +163,8 @@ fn mark_in(kind: u8) -> Mark
     }
 }
 
-// A row's record of a value.
+// A row's record of a value. The text is looked up by `lookup`: a second caller of `slots::text_code` would keep the compiler from putting that into the walk
+// over slots, which costs more.
 fn record_in(word: u64, v: u64) -> Record
     requires { ⌜ T (direct word) ⌝ }
     ensures { λ r. ⌜ r ≡ recordOf v (rowIn word) ⌝ }
@@ -172,7 +173,7 @@ fn record_in(word: u64, v: u64) -> Record
     Record {
         value,
         name: byte(word, 0) as u16,
-        text: slots::text_code(byte(word, 3), value) as u16,
+        text: lookup::text_code(byte(word, 3), value),
         long: byte(word, 4),
         start: byte(word, 5),
         width: byte(word, 6),

@@ -39,7 +39,7 @@ pub(crate) const ISS: u64 = 0x19_0009_0000_0008;
 const TOP: usize = 5;
 
 // The code of a rule's text of a value; 0 for none.
-pub(crate) fn text_code(rule: u8, value: u64) -> u64
+fn text_code(rule: u8, value: u64) -> u64
     ensures { λ r. ⌜ (r ≡ textCode rule value) × (r < 0x10000) ⌝ }
 {
     if describes(rule, value) {

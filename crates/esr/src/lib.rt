@@ -1,5 +1,7 @@
-// The decoder: the class table, the top rows, the checks in order, the walk from high bits to low.
-ghost use Rattle.esr.specs.Decode.{failureFor, recordsFor, refused, tableAnswer};
+// The decoder, by both engines: `decode` walks the one table; `decode_by_layouts` has the Rust's shape, with the class table, the top rows, the checks in order, and the walk from
+// high bits to low.
+ghost use Rattle.engine.specs.Engine.{readings};
+ghost use Rattle.esr.specs.Decode.{accepted, failureFor, recordsFor, refused, tableAnswer};
 ghost use Rattle.esr.specs.Promises.{Decoded, LayoutNumber};
 ghost use Rattle.layouts.specs.Layouts.{tableOf};
 ghost use Rattle.records.specs.Bits.{fieldOf};
@@ -13,7 +15,6 @@ use records::kinds as k;
 use refusals::Reason;
 use refusals::Refusal;
 use texts::names as n;
-use texts::rules as r;
 
 // A refusal and no records, or the records.
 pub struct Answer {
@@ -199,7 +200,17 @@ pub fn decode_by_layouts(esr: u64) -> Answer
     read(esr, number)
 }
 
-// The quicker of both: the engine, which walks the one table of all rows (#113).
+// The records of a value that the engine accepts.
+fn accept(esr: u64) -> Answer
+    ensures { λ r. ⌜ r ≡ accepted (readings esr) ⌝ }
+{
+    Answer {
+        refusal: Refusal::NONE,
+        records: engine::records_of(esr),
+    }
+}
+
+// The quicker of both: the engine, which walks the one table of all rows (#113). Each answer is returned where it is made, so that none is copied.
 pub fn decode(esr: u64) -> Answer
     ensures { λ r. ⌜ Decoded esr r ⌝ }
 {
@@ -207,8 +218,5 @@ pub fn decode(esr: u64) -> Answer
     if refusal.number() != 0 {
         return refuse(refusal);
     }
-    Answer {
-        refusal: Refusal::NONE,
-        records: engine::records_of(esr),
-    }
+    accept(esr)
 }

@@ -1,6 +1,5 @@
 -- Each field of the record is the row's, or what the callees promise; the text is that of the field's own value.
 use mathlib.Core.Path.{_≡_, ap₂, _∙_}
-use native.Mathlib.Omega.{arith}
 use Rattle.texts.specs.Pool.{textCode}
 use Rattle.records.specs.Kinds.{markOf, kindOf}
 use Rattle.records.specs.Rows.{recordOf, valueIn}
@@ -18,7 +17,7 @@ returns c =
     let v = t .before .before .before in
     let a = v .before .args in
     let text : t .text-code .result ≡ textOf (byteOf (a .word) 3) (valueIn (a .v) (rowIn (a .word))) =
-    t .text-code .ensures .0 ∙ ap₂ textCode (t .before .byte2 .ensures) (v .value-in .ensures) ∙ own-text (a .word) (v .before .pre) (valueIn (a .v) (rowIn (a .word))) in
+    t .text-code .ensures ∙ ap₂ textCode (t .before .byte2 .ensures) (v .value-in .ensures) ∙ own-text (a .word) (v .before .pre) (valueIn (a .v) (rowIn (a .word))) in
     cc
 
 pub record-in-spec : {M : Type 1} → statement M
@@ -30,7 +29,6 @@ record-in-spec =
     (λ c. search needs)
     (λ c κs. search needs)
     (λ c κs. search needs)
-    (λ c. omega (arith, c .text-code .ensures .1))
     (λ c κs. search needs)
     (λ c κs. search needs)
     (λ c κs. search needs)

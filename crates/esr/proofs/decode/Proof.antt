@@ -1,8 +1,5 @@
 -- What the engine judges, and where that passes, its records: the tables' answer, since both engines agree.
-use mathlib.Core.Path.{sym, ap, _∙_}
-use Rattle.records.specs.declared.Records.{Records}
-use Rattle.refusals.specs.Refusals.{noRefusal}
-use Rattle.esr.specs.Decode.{accepted}
+use mathlib.Core.Path.{sym, _∙_}
 use Rattle.esr.proofs.Engine.{engine-refuses, engine-accepts}
 use borrow.Author.Needs.{needs}
 use Rattle.esr.proofs.decode.Statement.{statement}
@@ -15,10 +12,9 @@ returns c =
     ∙ engine-refuses (j .before .args .esr) (j .judge .result) (j .judge .ensures) (λ e. c .before .if1 .taken (c .before .before .number .ensures ∙ e))
 
 returns-2 : tie.Need-returns-2
-unfolding accepted
 returns-2 c =
     let j = c .before .before .before in
-    ap (λ (s : Records). record { refusal = noRefusal; records = s }) (c .records-of .ensures)
+    c .accept .ensures
     ∙ engine-accepts (j .before .args .esr) (j .judge .result) (j .judge .ensures) (sym (c .before .before .number .ensures) ∙ c .before .if1 .left)
 
 pub decode-spec : {M : Type 1} → statement M
