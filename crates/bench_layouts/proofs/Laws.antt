@@ -1,16 +1,23 @@
--- An array that is filled from its front one element at a time, and the records of a set, of which each has its slot.
+-- An array that is filled from its front one element at a time, the records of a set, of which each has its slot, and what is answered with them.
 use Prim.Native.Nat.{ℕ, suc, _+_, _≤_, _<_}
 use mathlib.Core.List.{List, [], _∷_, _++_, append-assoc}
-use mathlib.Core.Path.{_≡_, sym, ap, _∙_}
+use mathlib.Core.Path.{_≡_, refl, sym, ap, _∙_}
 use native.Mathlib.Numerals.{add-one}
 use native.Mathlib.Omega.{arith}
 use lib.ListN.{length, getD, take, drop, set, length-map, List·getD-map}
 use lib.Seq.{take-suc, drop-cons, set-at, length-take-le, take-length, getD-take}
+use borrow.Author.Tests.{eq-eqb, ne-eqb}
+use Rattle.refusals.specs.Refusals.{refusalNumber}
 use Rattle.records.specs.Sets.{setRoom, noRecord}
 use Rattle.records.specs.declared.Records.{Records}
 use Rattle.engine.specs.Words.{wordsOf}
-use Rattle.capi.specs.Buffers.{front}
-use Rattle.capi.specs.Words.{allWords}
+use Rattle.esr.specs.Decode.{answerOf}
+use Rattle.esr.specs.declared.Answer.{Answer}
+use Rattle.strict.specs.declared.Profile.the-variants.{Ordinary}
+use Rattle.capi.specs.Answers.{filledOf}
+use Rattle.capi.specs.Buffers.{filling, front}
+use Rattle.capi.specs.Words.{allWords, decoding}
+use Rattle.capi.specs.declared.Filled.{Filled}
 
 -- Filling an array.
 
@@ -43,3 +50,14 @@ slot-at s i h =
 pub slots-count : (s : Records) → length (s .items) ≡ setRoom → s .count ≤ setRoom → length (allWords s) ≡ s .count
 slots-count s slots room =
     length-map (take (s .count) (s .items)) wordsOf ∙ length-take-le (s .count) (s .items) (omega arith)
+
+-- the refusal of the value, or its records
+module _ (esr : ℕ) {a : Answer} {number : ℕ} (is : a ≡ answerOf esr) (numbered : number ≡ refusalNumber (a .refusal)) (before : List (List ℕ)) where
+  pub decode-refused : {r : Filled} → (number ≡ 0 → ⊥) → r ≡ filledOf (a .refusal) 0 → (r, before) ≡ decoding Ordinary esr before
+  unfolding decoding
+  decode-refused h e =
+      ap (λ (x : Filled). (x, before)) e ∙ rw (← is) (rw (ne-eqb (refusalNumber (a .refusal)) 0 (λ z. h (numbered ∙ z))) refl)
+
+  pub decode-read : number ≡ 0 → filling (allWords (a .records)) before ≡ decoding Ordinary esr before
+  unfolding decoding
+  decode-read h = rw (← is) (rw (eq-eqb (refusalNumber (a .refusal)) 0 (sym numbered ∙ h)) refl)

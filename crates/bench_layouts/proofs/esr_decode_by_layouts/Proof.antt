@@ -4,8 +4,8 @@ use lib.ListN.{length}
 use Rattle.listing.proofs.Answers.{room}
 use Rattle.records.proofs.Laws.{long-as}
 use Rattle.records.specs.Sets.{setRoom}
-use Rattle.capi.proofs.Laws.{filled-short, filled-whole, decode-refused, decode-read}
-use Rattle.bench_layouts.proofs.Laws.{slots-count}
+use Rattle.capi.proofs.Laws.{filled-short, filled-whole}
+use Rattle.bench_layouts.proofs.Laws.{decode-refused, decode-read, slots-count}
 use borrow.Author.Needs.{needs}
 use Rattle.bench_layouts.proofs.esr_decode_by_layouts.Statement.{statement}
 use Rattle.bench_layouts.proofs.esr_decode_by_layouts.Tie as tie
