@@ -218,18 +218,9 @@ def linked(archives):
 
 def layouts_archive():
     """Proves the decoder in the Rust's shape as a C function, and writes its archive for this processor, as tools/retarget.py does the other."""
-    tools = retarget.toolchain()
-    retarget.run("rt", "staticlib", LAYOUTS, cwd=TOP, env={**os.environ, **retarget.keeping(LAYOUTS)})
-    built = TOP / "target" / "staticlib" / f"lib{LAYOUTS}.a"
-    if platform.machine() == "x86_64":
-        return built
-    module = retarget.kept(LAYOUTS)
-    sizes = {LAYOUTS_FUNCTION: retarget.returned()["esr_decode"]}
-    text = retarget.gathered(retarget.retargeted(retarget.text_of(module, tools), "aarch64-unknown-none-elf", sizes))
-    archive = OUT / "aarch64" / built.name
-    archive.parent.mkdir(parents=True, exist_ok=True)
-    archive.unlink(missing_ok=True)
-    retarget.run(tools / "llvm-ar", "rcs", archive, retarget.compiled(module, "aarch64", text, retarget.BARE, tools))
+    machine = platform.machine()
+    archive = OUT / machine / f"lib{LAYOUTS}.a"
+    retarget.archived(LAYOUTS, {LAYOUTS_FUNCTION: retarget.returned()["esr_decode"]}, {machine: archive})
     return archive
 
 

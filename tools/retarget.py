@@ -2,7 +2,8 @@
 
 The toolchain compiles for x86-64 alone. Its back end makes one LLVM module of the proved code and hands it to its clang, which knows AArch64 too. `keeping`
 has rt run a clang that first keeps the module; `retargeted` changes what names the processor in it, and nothing else; `gathered` makes one constant of the
-stores that build a long constant array; `compiled` has the same clang compile it. What is proved is the code before the back end, on either processor alike.
+stores that build a long constant array; `apart` keeps a large function from being compiled into each of its callers; `compiled` has the same clang compile it.
+What is proved is the code before the back end, on either processor alike.
 
 Both processors are little-endian, with the same integers and alignments and pointers of 64 bits, so that whatever the back end worked out for one holds for the
 other. One thing differs: a struct of more than 16 bytes is returned through a pointer, which x86-64 has as the first argument and AArch64 in a register of its
@@ -22,7 +23,6 @@ from pathlib import Path
 TOP = Path(__file__).resolve().parent.parent
 ROOM = TOP / "target" / "retarget"
 HEADER = TOP / "include" / "esr.h"
-BUILT = TOP / "target" / "staticlib" / "libcapi.a"
 MEMORY = TOP / "examples" / "memory.c"
 COMMAND = TOP / "tools" / "command.c"
 HELP = TOP / "tools" / "command.txt"
@@ -48,7 +48,15 @@ MAIN = re.compile(r"define i32 @main\(\) #\d+ \{")
 
 # A boot stage may run before the floating-point and vector registers are enabled, and before the MMU is on, when no access may be unaligned. As
 # position-independent code it goes into any program of Linux too.
-BARE = ("--target=aarch64-unknown-none-elf", "-mgeneral-regs-only", "-mstrict-align", "-fPIC")
+ARCHIVED = {
+    "aarch64": ("--target=aarch64-unknown-none-elf", "-mgeneral-regs-only", "-mstrict-align", "-fPIC"),
+    "x86_64": ("--target=x86_64-unknown-linux-gnu", "-fPIC"),
+}
+# With the functions that are lent the texts compiled into their callers, clang sees that nothing writes to the copy on the stack, and reads the one constant in
+# its place.
+IN_PLACE = ("-mllvm", "-inline-threshold=1500")
+# One of this size is called and not copied: the maker calls it in two places.
+APART = ("layouts::layout_of",)
 LINUX = {machine: (f"--target={machine}-unknown-linux-gnu", "-fPIE") for machine in MACHINES}
 # As the toolchain has them for x86-64.
 OPTIONS = ("-O3", "-ffunction-sections", "-fdata-sections", "-mllvm", "-trap-unreachable", "-mllvm", "-no-trap-after-noreturn", "--no-default-config", "-Werror")
@@ -290,6 +298,14 @@ def gathered(text):
     return "\n".join(lines) + "\n"
 
 
+def apart(text):
+    """The module with the functions of APART marked, so that each stands once in what is compiled of it. The mark says nothing of what a function does."""
+    for name in APART:
+        text, found = re.subn(rf'^(define internal [^\n]*@"{re.escape(name)}"\([^\n]*\)) (#\d+ \{{)$', r"\1 noinline \2", text, flags=re.M)
+        expect(found == 1, f"{found} functions {name}")
+    return text
+
+
 def named(text, name):
     """The module of a program whose main has a name of its own, so that several can be linked together."""
     lines = text.splitlines()
@@ -345,23 +361,28 @@ def returned():
     return {name: int(sizes[kind]) for kind, name in re.findall(r"^(\w+) (esr_\w+)\(", text, flags=re.M)}
 
 
+def archived(name, sizes, paths):
+    """Proves a library of C functions and writes its archive to the path of each processor, from one module. Sizes has the bytes of the struct that each returns."""
+    tools = toolchain()
+    run("rt", "staticlib", name, cwd=TOP, env={**os.environ, **keeping(name)})
+    module = kept(name)
+    text = text_of(module, tools)
+    understood(text)
+    for machine, path in paths.items():
+        path.parent.mkdir(parents=True, exist_ok=True)
+        path.unlink(missing_ok=True)
+        own = retargeted(text, "aarch64-unknown-none-elf", sizes) if machine == "aarch64" else text
+        run(tools / "llvm-ar", "rcs", path, compiled(module, machine, gathered(apart(own)), ARCHIVED[machine] + IN_PLACE, tools))
+
+
 def archives():
-    """Proves the C functions and writes their archive for each processor, from one module: the toolchain's own for x86-64, and one for AArch64, bare metal or
-    Linux. Those of the same sources, prover and tool are left as they are."""
+    """Writes the archive of the C functions for x86-64, and for AArch64, bare metal or Linux. Those of the same sources, prover and tool are left as they are."""
     made_of = "\n".join((sources(), prover(), hashlib.sha256(Path(__file__).read_bytes() + HEADER.read_bytes()).hexdigest()))
     stamp = ROOM / "archives.of"
     if stamp.is_file() and stamp.read_text() == made_of and all(path.is_file() for path in ARCHIVES.values()):
         return
     stamp.unlink(missing_ok=True)
-    tools = toolchain()
-    run("rt", "staticlib", "capi", cwd=TOP, env={**os.environ, **keeping("capi")})
-    module = kept("capi")
-    text = gathered(retargeted(text_of(module, tools), "aarch64-unknown-none-elf", returned()))
-    for path in ARCHIVES.values():
-        path.parent.mkdir(parents=True, exist_ok=True)
-        path.unlink(missing_ok=True)
-    shutil.copyfile(BUILT, ARCHIVES["x86_64"])
-    run(tools / "llvm-ar", "rcs", ARCHIVES["aarch64"], compiled(module, "aarch64", text, BARE, tools))
+    archived("capi", returned(), ARCHIVES)
     stamp.write_text(made_of)
 
 
