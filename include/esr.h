@@ -46,7 +46,11 @@ enum {
     ESR_WIDE_LEAF = 22,        /* a leaf or ISS2 that doesn't fit its width, or an IL that isn't 0 or 1 */
     ESR_BAD_REST = 23,         /* something else than a space, tab, carriage return or line feed stands behind a number */
     ESR_INVALID_WU = 24,       /* strict reading: WU 1 where WU is read */
-    ESR_INVALID_VNCR = 25      /* strict reading: VNCR is not 0, and the core has no nested virtualisation */
+    ESR_INVALID_VNCR = 25,     /* strict reading: VNCR is not 0, and the core has no nested virtualisation */
+    ESR_SHORT_SHEET = 26,      /* a phrase sheet of fewer than two bytes, of length 0 or of fewer bytes than it asks, or a phrase's head of under three */
+    ESR_BAD_SHEET_VERSION = 27, /* a sheet's version is not 1 */
+    ESR_LONG_PHRASE = 28,      /* a phrase's count runs past the end of its sheet */
+    ESR_CODE_NOT_RISING = 29   /* a phrase's code is not above the one before it */
 };
 
 /* As many records as any value has: 14 inside ISS, 19 in all. */
@@ -57,6 +61,9 @@ enum {
 
 /* An array of so many bytes holds the listing of any value. This is proved. */
 #define ESR_LISTING_MAX 1053
+
+/* The same of a listing with the texts of any two phrase sheets. This is proved. */
+#define ESR_LISTING_WITH_MAX 5993
 
 /* Whether a field was checked: the member mark of a record. What is said of a checked and of a coded field is proved of every accepted value. */
 enum {
@@ -137,6 +144,24 @@ typedef struct esr_surveyed {
     uint8_t width;
 } esr_surveyed;
 
+/* Where a phrase lies: bytes offset to offset + length - 1 of one of the caller's sheets. */
+typedef struct esr_phrase_place {
+    uint64_t carried;
+    size_t offset;
+    size_t length;
+    uint8_t sheet;
+    uint8_t refusal;
+    uint8_t start;
+    uint8_t width;
+} esr_phrase_place;
+
+/* The member sheet: which sheet has the phrase. */
+enum {
+    ESR_NEITHER_SHEET = 0,
+    ESR_WORKSHOP_SHEET = 1,
+    ESR_STANDARD_SHEET = 2
+};
+
 /* Decodes a value into the front of the caller's array: RES0, ISS2, EC, IL and ISS, then ISS's own records, from high bits to low.
    First bits 37 to 63 must be 0, then the class is looked up, then its layout's checks in their order; the first failure answers, by 1 to 7, and
    where that is a reserved field, start and width name it. Then an array that has fewer slots than there are records is refused by 11, which
@@ -155,13 +180,22 @@ esr_filled esr_decode_strict(uint64_t esr, uint8_t nested, esr_record *slots, si
    0 bytes. */
 esr_filled esr_text(uint16_t code, uint8_t *buffer, size_t length);
 
-/* The five functions below write a text into the front of the buffer, without a 0 after it: count is its bytes, and the bytes after it stay
+/* The seven functions below write a text, or a sheet, into the front of the buffer, without a 0 after it: count is its bytes, and the bytes after it stay
    as they were. A text longer than the buffer is refused by 11, which carries the bytes needed (so that a length of 0 asks for them); every
    other refusal comes before 11. A refusal leaves the buffer as it was. */
 
 /* The listing of a value: for each record its line, then "# " and its text if it has one, each ended by one line feed; ISS's own are indented
    two spaces, text lines too. A value that esr_decode refuses is refused by the same number, carrying and naming the same. */
 esr_filled esr_listing(uint64_t esr, uint8_t *buffer, size_t length);
+
+/* The same listing with the texts of two phrase sheets in place of its own: the text after "# " is the phrase of its code, the workshop's if it has one, otherwise the
+   standard one's, byte for byte. A phrase that is empty leaves "# "; a text that neither sheet has is left out with its line. A phrase is not looked into: a line feed
+   in it ends the line there, and what follows stands on a line of its own, without "# " and indent. With what esr_standard_sheet writes as either sheet, and no text in the other, it
+   is the listing of esr_listing; beside any workshop's sheet no text is missing then. Both are proved. First the refusals of esr_decode, then those of the sheets, 26 to 29 (see esr_phrase), then 11. */
+esr_filled esr_listing_with(uint64_t esr, const uint8_t *workshop, size_t workshop_length, const uint8_t *standard, size_t standard_length, uint8_t *buffer, size_t length);
+
+/* The standard phrase sheet: every text that a record can have, in the words of esr_text and under its code, and no other code. The words of messages are not among them, nor names. */
+esr_filled esr_standard_sheet(uint8_t *buffer, size_t length);
 
 /* The line of one record of a value, RES0 at index 0 and ISS's own records from 5 on: name, ": " and the value; width 1 prints true or false,
    wider "0x" and ceil(width/4) digits, small letters, a space, "0b" and width digits. No indent, text or line feed. A value that esr_decode
@@ -190,6 +224,13 @@ esr_number esr_parse_number(const uint8_t *characters, size_t length);
    stop, so that characters[taken] is the stop, or taken is length. What stands behind it is not looked at. Input that begins with a stop is 8, as is "0x" followed by
    one. A refused number has the value 0 and takes 0 bytes. */
 esr_number_read esr_read_number(const uint8_t *characters, size_t length);
+
+/* Looks the phrase of a code up in two phrase sheets: sheet says which has it, the workshop's if the code is there, otherwise the standard one, and offset and length
+   where it lies in that sheet, those same bytes of the caller's. A code that neither has gives ESR_NEITHER_SHEET and 0 bytes; an empty phrase has 0 bytes and a sheet. A sheet: two bytes of length (bytes that follow),
+   big-endian, version 1, then phrases, each of a two-byte code, big-endian, a one-byte count and that many bytes, codes strictly rising. Bytes past the length are not read. Refusals, the workshop's sheet first and
+   wholly: 26 for fewer than two bytes, length 0 or fewer bytes than it asks, 27 for the version, then phrase by phrase 26 for a head of under three bytes, 28 for a count running past the
+   end, 29 for a code not rising. Of a refusal sheet, offset and length are 0. */
+esr_phrase_place esr_phrase(const uint8_t *workshop, size_t workshop_length, const uint8_t *standard, size_t standard_length, uint16_t code);
 
 /* Reads the flash entry at the front of a block, big-endian: two bytes of length (bytes that follow), version 1, two of sequence, eight of
    ESR; so length 11, 13 bytes in all. Order: fewer than 2 bytes, 14; length 0, 15; fewer than 2 + length, 14; version, 16; length not 11,
@@ -241,6 +282,9 @@ ESR_HOLDS(entry_bits, offsetof(esr_entry, start) == 35 && offsetof(esr_entry, wi
 ESR_HOLDS(walked, sizeof(esr_walked) == 40 && offsetof(esr_walked, entries) == 8 && offsetof(esr_walked, decoded) == 16);
 ESR_HOLDS(walked_rest, offsetof(esr_walked, offset) == 24 && offsetof(esr_walked, ended) == 32 && offsetof(esr_walked, refusal) == 33);
 ESR_HOLDS(walked_bits, offsetof(esr_walked, start) == 34 && offsetof(esr_walked, width) == 35);
+ESR_HOLDS(phrase_place, sizeof(esr_phrase_place) == 32 && offsetof(esr_phrase_place, offset) == 8 && offsetof(esr_phrase_place, length) == 16);
+ESR_HOLDS(phrase_place_rest, offsetof(esr_phrase_place, sheet) == 24 && offsetof(esr_phrase_place, refusal) == 25);
+ESR_HOLDS(phrase_place_bits, offsetof(esr_phrase_place, start) == 26 && offsetof(esr_phrase_place, width) == 27);
 ESR_HOLDS(surveyed, sizeof(esr_surveyed) == 40 && offsetof(esr_surveyed, refused) == 8 && offsetof(esr_surveyed, refusal) == 36);
 ESR_HOLDS(surveyed_bits, offsetof(esr_surveyed, start) == 37 && offsetof(esr_surveyed, width) == 38);
 #undef ESR_HOLDS

@@ -581,6 +581,45 @@ static void check_makes(void) {
     HOLDS(makes(esr_make(0x15, 1, 0, three, ~(size_t)0 / sizeof three[0]), 0, no_layout));
 }
 
+/* The standard sheet, and more than it needs. */
+static uint8_t own_sheet[16 * 1024];
+static size_t own_length;
+
+/* The standard sheet in arrays of every length about the needed one; each code in it, whose text is that of esr_text; the listing of each marked value with it, which is its own. */
+static void check_sheets(void) {
+    static uint8_t listed[BYTES];
+    own_length = (size_t)esr_standard_sheet(own_sheet, 0).carried;
+    HOLDS(0 < own_length && own_length < sizeof own_sheet);
+    for (size_t length = own_length - 1; length <= own_length + 1; length++) {
+        mark(own_sheet, sizeof own_sheet);
+        esr_filled filled = esr_standard_sheet(own_sheet, length);
+        HOLDS(length < own_length ? answers(filled, ESR_SHORT_BUFFER, own_length, 0) : answers(filled, ESR_ACCEPTED, 0, own_length));
+        HOLDS(marked(own_sheet, length < own_length ? 0 : own_length, sizeof own_sheet));
+    }
+    for (uint32_t code = 0; code <= 0xFFFF; code++) {
+        esr_phrase_place first = esr_phrase(own_sheet, own_length, own_sheet, own_length + 1, (uint16_t)code);
+        esr_phrase_place second = esr_phrase((const uint8_t *)"\0\1\1", 3, own_sheet, own_length, (uint16_t)code);
+        HOLDS(first.refusal == ESR_ACCEPTED && first.carried == 0 && first.start == 0 && first.width == 0);
+        HOLDS(first.sheet == (second.sheet == ESR_STANDARD_SHEET ? ESR_WORKSHOP_SHEET : ESR_NEITHER_SHEET));
+        HOLDS(first.offset == second.offset && first.length == second.length);
+        if (first.sheet != ESR_NEITHER_SHEET) {
+            HOLDS(answers(esr_text((uint16_t)code, text, BYTES), ESR_ACCEPTED, 0, first.length) && same(text, own_sheet + first.offset, first.length));
+        }
+    }
+    for (size_t i = 0; i < MARKED; i++) {
+        for (size_t sides = 0; sides < 2; sides++) {
+            size_t first = sides == 0 ? own_length : 3, second = sides == 0 ? 3 : own_length;
+            const uint8_t *none = (const uint8_t *)"\0\1\1";
+            mark(text, BYTES);
+            mark(listed, BYTES);
+            esr_filled with = esr_listing_with(values[i].esr, sides == 0 ? own_sheet : none, first, sides == 0 ? none : own_sheet, second, listed, BYTES);
+            esr_filled own = esr_listing(values[i].esr, text, BYTES);
+            HOLDS(with.refusal == own.refusal && with.carried == own.carried && with.start == own.start && with.width == own.width && with.count == own.count);
+            HOLDS(same(text, listed, BYTES));
+        }
+    }
+}
+
 /* The stack below a call is painted, and what is no longer paint afterwards was used; the frame of the small function that makes the call
    counts too. This file is compiled without a red zone, so that nothing of its own lies there. */
 #define PAINTED 65536
@@ -646,6 +685,24 @@ static void call_walk(void) {
     sink = &walked;
 }
 
+static void call_phrase(void) {
+    static esr_phrase_place place;
+    place = esr_phrase(own_sheet, own_length, own_sheet, own_length, (uint16_t)asked);
+    sink = &place;
+}
+
+static void call_listing_with(void) {
+    static esr_filled filled;
+    filled = esr_listing_with(asked, own_sheet, own_length, own_sheet, own_length, text, BYTES);
+    sink = &filled;
+}
+
+static void call_standard_sheet(void) {
+    static esr_filled filled;
+    filled = esr_standard_sheet(own_sheet, asked % 2 == 0 ? sizeof own_sheet : 0);
+    sink = &filled;
+}
+
 __attribute__((noinline)) static size_t stack_of(void (*call)(void)) {
     volatile uint8_t *top;
 #if defined(__aarch64__)
@@ -709,6 +766,7 @@ int main(void) {
     check_walks();
     check_surveys();
     check_makes();
+    check_sheets();
     if (failures != 0) {
         return 1;
     }
@@ -729,5 +787,8 @@ int main(void) {
     measure("esr_walk", call_walk, counted, sizeof walked_block + 1);
     measure("esr_survey", call_survey, counted, CLASSES);
     measure("esr_make", call_make, counted, CLASSES * 15);
+    measure("esr_phrase", call_phrase, counted, 1024);
+    measure("esr_listing_with", call_listing_with, syndrome, CLASSES * MARKED);
+    measure("esr_standard_sheet", call_standard_sheet, counted, 2);
     return 0;
 }

@@ -1,7 +1,7 @@
 -- Each promise of this crate decides its answer: it says what the answer is, and what the lent array holds then. That of esr_make is decided as the maker's is.
 use mathlib.Core.Path.{sym, ap, _∙_}
 use Rattle.capi.specs.Answers.{makeAnswer}
-use Rattle.capi.specs.Promises.{BinaryFilled, RecordsFilled, EntryAnswered, LineFilled, ListingFilled, MakeAnswered, MessageFilled, NumberAnswered, ReadAnswered, StrictlyFilled, SurveyAnswered, TextFilled, ValueFilled, WalkAnswered}
+use Rattle.capi.specs.Promises.{BinaryFilled, RecordsFilled, EntryAnswered, LineFilled, ListingFilled, MakeAnswered, MessageFilled, NumberAnswered, ReadAnswered, StrictlyFilled, SurveyAnswered, TextFilled, ValueFilled, WalkAnswered, ListingWithFilled, PhraseAnswered, SheetFilled}
 use Rattle.maker.proofs.Decides.{make-decides}
 use Rattle.promise.proofs.Laws.{same}
 use Rattle.promise.specs.Promise.{Decides}
@@ -29,6 +29,15 @@ esr-record-line-decides (esr, index, before) a b = same
 
 pub esr-listing-decides : Decides ListingFilled
 esr-listing-decides (esr, before) a b = same
+
+pub esr-listing-with-decides : Decides ListingWithFilled
+esr-listing-with-decides (esr, workshop, standard, before) a b = same
+
+pub esr-standard-sheet-decides : Decides SheetFilled
+esr-standard-sheet-decides before a b = same
+
+pub esr-phrase-decides : Decides PhraseAnswered
+esr-phrase-decides (workshop, standard, code) a b = same
 
 pub esr-parse-number-decides : Decides NumberAnswered
 esr-parse-number-decides s a b = same

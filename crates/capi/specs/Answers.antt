@@ -1,17 +1,21 @@
 -- What C gets: a refusal as 01's number of it, what it carries, and the start and width of the field that it names; the numbers of an answer beside them.
 use Prim.Native.Nat.{ℕ}
 use mathlib.Core.List.{List}
+use mathlib.Core.Bool.{cond}
 use lib.ListN.{length}
 use Rattle.entry.specs.Entries.{entryOf, bodyOf, bodyStart}
 use Rattle.number.specs.Rest.{readOf, wholeOf}
 use Rattle.maker.specs.declared.Made.{Made}
-use Rattle.refusals.specs.Refusals.{refusalNumber}
+use Rattle.phrases.specs.Sheets.{bothSound, judgedBoth, nowhere, inSheet, findIn}
+use Rattle.phrases.specs.declared.Found.{Found}
+use Rattle.refusals.specs.Refusals.{bare, refusalNumber}
 use Rattle.refusals.specs.declared.Refusal.{Refusal}
 use Rattle.survey.specs.Surveys.{ordinaryOf}
 use Rattle.survey.specs.declared.Tally.{Tally}
 use Rattle.capi.specs.declared.EntryAnswer.{EntryAnswer}
 use Rattle.capi.specs.declared.Filled.{Filled}
 use Rattle.capi.specs.declared.NumberAnswer.{NumberAnswer}
+use Rattle.capi.specs.declared.PhraseAnswer.{PhraseAnswer}
 use Rattle.capi.specs.declared.ReadAnswer.{ReadAnswer}
 use Rattle.capi.specs.declared.SurveyAnswer.{SurveyAnswer}
 use Rattle.capi.specs.declared.WalkAnswer.{WalkAnswer}
@@ -89,3 +93,21 @@ surveyAnswer t =
       start = t .refusal .start;
       width = t .refusal .width;
     }
+
+-- where a phrase lies, beside the refusal of the sheets
+abbrev pub phraseAnswer : Refusal → Found → PhraseAnswer
+phraseAnswer f p =
+    record {
+      carried = f .carries;
+      offset = p .start;
+      length = p .count;
+      sheet = p .sheet;
+      refusal = refusalNumber f;
+      start = f .start;
+      width = f .width;
+    }
+
+-- of sheets that are refused, nowhere
+unfoldable pub phraseOf : List ℕ → List ℕ → ℕ → PhraseAnswer
+phraseOf workshop standard code =
+    phraseAnswer (bare (judgedBoth workshop standard)) (cond (bothSound workshop standard) (findIn workshop standard code) (inSheet 0 nowhere))

@@ -3,19 +3,22 @@
 use Prim.Native.Nat.{ℕ}
 use mathlib.Core.List.{List}
 use mathlib.Core.Path.{_≡_}
-use Rattle.listing.specs.Requested.{recordLine, listingOf}
+use Rattle.listing.specs.Requested.{recordLine, listingOf, listingWithOf}
 use Rattle.maker.specs.Promises.{Makes}
 use Rattle.maker.specs.declared.Made.{Made}
+use Rattle.sheets.specs.Standard.{standardSheet}
+use Rattle.written.specs.Outcomes.{text}
 use Rattle.written.specs.Requested.{valueString, binaryString, messageOf}
 use Rattle.strict.specs.declared.Profile.the-variants.{Ordinary}
 use Rattle.survey.specs.Surveys.{surveyOf}
 use Rattle.texts.specs.Pool.{bytesAt}
-use Rattle.capi.specs.Answers.{numberAnswer, readAnswer, entryAnswer, makeAnswer, surveyAnswer, walkAnswer}
+use Rattle.capi.specs.Answers.{numberAnswer, readAnswer, entryAnswer, makeAnswer, phraseOf, surveyAnswer, walkAnswer}
 use Rattle.capi.specs.Buffers.{filling, filledWith}
 use Rattle.capi.specs.Words.{decoding, strictOf}
 use Rattle.capi.specs.declared.EntryAnswer.{EntryAnswer}
 use Rattle.capi.specs.declared.Filled.{Filled}
 use Rattle.capi.specs.declared.NumberAnswer.{NumberAnswer}
+use Rattle.capi.specs.declared.PhraseAnswer.{PhraseAnswer}
 use Rattle.capi.specs.declared.ReadAnswer.{ReadAnswer}
 use Rattle.capi.specs.declared.SurveyAnswer.{SurveyAnswer}
 use Rattle.capi.specs.declared.WalkAnswer.{WalkAnswer}
@@ -50,6 +53,18 @@ LineFilled (esr, index, before) r = r ≡ filledWith (recordLine esr index) befo
 
 abbrev pub ListingFilled : ℕ × List ℕ → Filled × List ℕ → Type 0
 ListingFilled (esr, before) r = r ≡ filledWith (listingOf esr) before
+
+-- the same with the texts of two sheets
+abbrev pub ListingWithFilled : ℕ × List ℕ × List ℕ × List ℕ → Filled × List ℕ → Type 0
+ListingWithFilled (esr, workshop, standard, before) r = r ≡ filledWith (listingWithOf esr workshop standard) before
+
+-- the standard sheet
+abbrev pub SheetFilled : List ℕ → Filled × List ℕ → Type 0
+SheetFilled before r = r ≡ filledWith (text standardSheet) before
+
+-- where the phrase of a code lies in two sheets
+abbrev pub PhraseAnswered : List ℕ × List ℕ × ℕ → PhraseAnswer → Type 0
+PhraseAnswered (workshop, standard, code) r = r ≡ phraseOf workshop standard code
 
 -- the number of a whole input
 abbrev pub NumberAnswered : List ℕ → NumberAnswer → Type 0

@@ -2,15 +2,17 @@
 // and width of the field that it names.
 // `include/esr.h` declares them.
 ghost use Prim.Native.Nat.{_≤_};
-ghost use Rattle.capi.specs.Answers.{filledOf};
+ghost use Rattle.capi.specs.Answers.{filledOf, phraseAnswer};
 ghost use Rattle.capi.specs.Buffers.{front};
 ghost use Rattle.capi.specs.Words.{decoding, judgedFilling};
-ghost use Rattle.capi.specs.Promises.{BinaryFilled, RecordsFilled, EntryAnswered, LineFilled, ListingFilled, MakeAnswered, MessageFilled, NumberAnswered, ReadAnswered, StrictlyFilled, SurveyAnswered, TextFilled, ValueFilled, WalkAnswered};
+ghost use Rattle.capi.specs.Promises.{BinaryFilled, RecordsFilled, EntryAnswered, LineFilled, ListingFilled, MakeAnswered, MessageFilled, NumberAnswered, ReadAnswered, StrictlyFilled, SurveyAnswered, TextFilled, ValueFilled, WalkAnswered, ListingWithFilled, PhraseAnswered, SheetFilled};
 ghost use Rattle.refusals.specs.Refusals.{passed};
 ghost use Rattle.texts.specs.Pool.{bytesAt};
 ghost use lib.ListN.{length};
 ghost use mathlib.Core.Bool.{cond};
 ghost use mathlib.Core.Path.{_≡_};
+use phrases::Found;
+use phrases::NEITHER;
 use refusals::Reason;
 use refusals::Refusal;
 use strict::Profile;
@@ -79,6 +81,18 @@ pub struct WalkAnswer {
 pub struct SurveyAnswer {
     pub carried: u64,
     pub refused: [u32; 7],
+    pub refusal: u8,
+    pub start: u8,
+    pub width: u8,
+}
+
+// The phrase is given by the sheet that has it, 0 where neither has, and by its offset there (#112).
+#[repr(C)]
+pub struct PhraseAnswer {
+    pub carried: u64,
+    pub offset: usize,
+    pub length: usize,
+    pub sheet: u8,
     pub refusal: u8,
     pub start: u8,
     pub width: u8,
@@ -207,6 +221,57 @@ pub extern "C" fn esr_listing(esr: u64, buf: &mut [u8]) -> Filled
     ensures { λ r. ⌜ ListingFilled (esr, now (buf .entry)) (r, now (buf .exit)) ⌝ }
 {
     filled_by_text(listing::listing(esr, buf))
+}
+
+#[no_mangle]
+pub extern "C" fn esr_listing_with(
+    esr: u64,
+    workshop: &[u8],
+    standard: &[u8],
+    buf: &mut [u8],
+) -> Filled
+    ensures { λ r. ⌜ ListingWithFilled (esr, now (workshop .entry), now (standard .entry), now (buf .entry)) (r, now (buf .exit)) ⌝ }
+{
+    filled_by_text(listing::listing_with(esr, workshop, standard, buf))
+}
+
+#[no_mangle]
+pub extern "C" fn esr_standard_sheet(buf: &mut [u8]) -> Filled
+    ensures { λ r. ⌜ SheetFilled (now (buf .entry)) (r, now (buf .exit)) ⌝ }
+{
+    filled_by_text(sheets::standard_sheet(buf))
+}
+
+fn phrase_answer(refusal: Refusal, found: Found) -> PhraseAnswer
+    ensures { λ r. ⌜ r ≡ phraseAnswer refusal found ⌝ }
+{
+    PhraseAnswer {
+        carried: refusal.carries,
+        offset: found.start,
+        length: found.count,
+        sheet: found.sheet,
+        refusal: refusal.number(),
+        start: refusal.start,
+        width: refusal.width,
+    }
+}
+
+#[no_mangle]
+pub extern "C" fn esr_phrase(workshop: &[u8], standard: &[u8], code: u16) -> PhraseAnswer
+    ensures { λ r. ⌜ PhraseAnswered (now (workshop .entry), now (standard .entry), code) r ⌝ }
+{
+    let refusal = phrases::sheets_refusal(workshop, standard);
+    if refusal.number() != 0 {
+        return phrase_answer(
+            refusal,
+            Found {
+                start: 0,
+                count: 0,
+                sheet: NEITHER,
+            },
+        );
+    }
+    phrase_answer(refusal, phrases::find(workshop, standard, code))
 }
 
 #[no_mangle]

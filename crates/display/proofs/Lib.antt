@@ -1,3 +1,5 @@
 pub mod Cases
+pub mod Sources
+pub mod Feeds
 pub mod Decides
 pub mod Unmarked

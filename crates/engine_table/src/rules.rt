@@ -54,7 +54,7 @@ pub fn values_of(rule: u8) -> u64
         44 => 0x1,
         45 => 0xFE,
         46 => 0x82,
-        47 => 0x391_C700,
+        47 => 0x3F91_C700,
         48 => 0x3,
         49 => 0xFFFF_FFFF_FFFF_FFFF,
         _ => 0,

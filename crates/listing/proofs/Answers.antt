@@ -1,11 +1,16 @@
 -- The outcome of each public function by the tests that the code makes, in its order.
-use mathlib.Core.Path.{_≡_, sym, _∙_, subst}
+use mathlib.Core.Bool.{true, false}
+use mathlib.Core.List.{List}
+use mathlib.Core.Path.{_≡_, sym, ap, _∙_, subst}
 use Prim.Native.Nat.{ℕ, _≤_, _<_}
 use native.Mathlib.Omega.{arith}
 use borrow.Author.Tests.{lt-ltb, le-ltb, eq-eqb, ne-eqb}
 use lib.ListN.{length, getD}
 use lib.Seq.{getD-take, length-take-le}
-use Rattle.refusals.specs.Refusals.{carrying, refusalNumber}
+use Rattle.refusals.specs.Refusals.{bare, carrying, refusalNumber}
+use Rattle.refusals.specs.declared.Refusal.{Refusal}
+use Rattle.refusals.proofs.Cases.{passed-yes, passed-no}
+use Rattle.phrases.specs.Sheets.{bothSound, judgedBoth, textIn}
 use Rattle.refusals.specs.declared.Reason.the-variants.{BadIndex}
 use Rattle.records.specs.Sets.{setRoom, noRecord, recordAt, listOf}
 use Rattle.records.specs.declared.Record.{Record}
@@ -13,8 +18,8 @@ use Rattle.esr.specs.Decode.{answerOf}
 use Rattle.esr.specs.declared.Answer.{Answer}
 use Rattle.esr.proofs.Laws.{answer-room}
 use Rattle.written.specs.Outcomes.{refused, text}
-use Rattle.listing.specs.Requested.{lineIn, recordLine, listingOf}
-use Rattle.display.specs.Listings.{lineText, listing}
+use Rattle.listing.specs.Requested.{lineIn, recordLine, listingOf, listingWithOf}
+use Rattle.display.specs.Listings.{lineText, listing, listingWith}
 use Rattle.texts.specs.Pool.{bytesAt}
 
 module _ (esr : ℕ) {a : Answer} {n : ℕ} (is : a ≡ answerOf esr) (by : n ≡ refusalNumber (a .refusal)) where
@@ -25,6 +30,23 @@ module _ (esr : ℕ) {a : Answer} {n : ℕ} (is : a ≡ answerOf esr) (by : n �
   pub listing-yes : n ≡ 0 → listingOf esr ≡ text (listing bytesAt (listOf (a .records)))
   unfolding listingOf
   listing-yes h = rw (← is, eq-eqb (refusalNumber (a .refusal)) 0 (sym by ∙ h))
+
+  pub with-no : (workshop standard : List ℕ) → (n ≡ 0 → ⊥) → listingWithOf esr workshop standard ≡ refused (a .refusal)
+  unfolding listingWithOf
+  with-no workshop standard h = rw (← is, ne-eqb (refusalNumber (a .refusal)) 0 (λ e. h (by ∙ e)))
+
+  module _ (workshop standard : List ℕ) (decoded : n ≡ 0) {f : Refusal} (judged : f ≡ bare (judgedBoth workshop standard)) {m : ℕ} (told : m ≡ refusalNumber f) where
+    pub with-bad : (m ≡ 0 → ⊥) → listingWithOf esr workshop standard ≡ refused f
+    unfolding listingWithOf
+    with-bad h =
+        let no : bothSound workshop standard ≡ false = passed-no (bare (judgedBoth workshop standard)) (told ∙ ap refusalNumber judged) h in
+        rw (← is, eq-eqb (refusalNumber (a .refusal)) 0 (sym by ∙ decoded), no, judged)
+
+    pub with-yes : m ≡ 0 → listingWithOf esr workshop standard ≡ text (listingWith bytesAt (textIn workshop standard) (listOf (a .records)))
+    unfolding listingWithOf
+    with-yes h =
+        let yes : bothSound workshop standard ≡ true = passed-yes (bare (judgedBoth workshop standard)) (told ∙ ap refusalNumber judged) h in
+        rw (← is, eq-eqb (refusalNumber (a .refusal)) 0 (sym by ∙ decoded), yes)
 
   pub line-refused : (n ≡ 0 → ⊥) → (index : ℕ) → recordLine esr index ≡ refused (a .refusal)
   unfolding recordLine

@@ -1,3 +1,4 @@
 pub mod Longest
+pub mod LongestWith
 pub mod Answers
 pub mod Decides

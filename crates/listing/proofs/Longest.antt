@@ -31,7 +31,7 @@ use Rattle.written.specs.Outcomes as outcome
 use Rattle.strings.proofs.Cases.{field-most, field-short}
 use Rattle.listing.specs.Requested.{listingOf}
 use Rattle.buffer.specs.InOrder.{eachFrom}
-use Rattle.display.specs.Listings.{indentAt, lineText, textLine, recordLines, listing}
+use Rattle.display.specs.Listings.{indentAt, lineText, textLine, everyText, recordLines, listing}
 use Rattle.listing.specs.Longest.{listingMost}
 use Rattle.display.proofs.Cases.{length-line, text-none, length-some, length-lines}
 
@@ -91,7 +91,7 @@ row-most : (index v : ℕ) (row : Row) → length (recordLines bytesAt index (re
 unfolding rowMost valueMost recordOf
 row-most index v row =
     let r : Record = recordOf v row in
-    omega (arith, length-lines bytesAt index r, length-line bytesAt r, field-most (r .width) (r .value), text-most index (row .rule) (subject (row .rule) (r .value)))
+    omega (arith, length-lines bytesAt index (everyText bytesAt) r, length-line bytesAt r, field-most (r .width) (r .value), text-most index (row .rule) (subject (row .rule) (r .value)))
 
 -- of rows: the first ones of the value, the others of its ISS
 rows-most : (index esr iss : ℕ) (top own : List Row)
@@ -127,7 +127,7 @@ accepted-short s m esr iss =
     rw (take-append-seam l (replicate (setRoom - length l) noRecord))
     (omega (arith, leb→le (rowsMost 0 (top ++ own)) listingMost fits, rows-most 0 esr iss top own))
 
-answer-short : (esr : ℕ) → Short (answerOf esr)
+pub answer-short : (esr : ℕ) → Short (answerOf esr)
 unfolding refused recordsOf eachFrom
 answer-short = answer-has Short (λ f. omega arith) accepted-short
 

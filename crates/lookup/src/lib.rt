@@ -56,7 +56,7 @@ fn in_numbers(rule: u8) -> Descriptions
         rules::WNR_NOT_VALID => Descriptions(0x1, pool::WNR_NOT_VALID_FIRST),
         rules::MESSAGE => Descriptions(0xFE, pool::MESSAGE_FIRST),
         rules::MESSAGE_END => Descriptions(0x82, pool::MESSAGE_END_FIRST),
-        rules::OWN_WORDS => Descriptions(0x391_C700, pool::OWN_WORDS_FIRST),
+        rules::OWN_WORDS => Descriptions(0x3F91_C700, pool::OWN_WORDS_FIRST),
         rules::MSR_READ => Descriptions(0x3, pool::MSR_READ_FIRST),
         rules::SYSTEM_REGISTER => Descriptions(0xFFFF_FFFF_FFFF_FFFF, pool::SYSTEM_REGISTER_FIRST),
         _ => Descriptions(0, texts::COUNT as u16),

@@ -25,7 +25,7 @@ use Rattle.tables.specs.Tables.{topRows, layouts, res0, wf, mcr, mcrr, ldc, sve
 use Rattle.esr.specs.Decode.{firstFailure, refused, accepted as acceptedAnswer, failureFor, recordsFor, tableAnswer, classAnswer, answerOf}
 use Rattle.esr.specs.declared.Answer.{Answer}
 use Rattle.listing.specs.Requested.{listingOf}
-use Rattle.display.specs.Listings.{indentAt, lineText, textLine, recordLines}
+use Rattle.display.specs.Listings.{indentAt, lineText, foundLine, textLineWith, recordLinesWith}
 use Rattle.buffer.specs.InOrder.{eachFrom}
 use Rattle.digits.specs.Digits.{digitChar, digitsOf}
 use Rattle.strings.specs.Fields.{valueText, binaryText, binarySuffix, fieldText}
@@ -129,7 +129,7 @@ unfolding bytes wholeOf isStop beforeStop restOf areStops numberOf numberIn read
 read = refl
 
 in-full : listingOf 0x56000001 ≡ inFull (ended listed)
-unfolding listed ended listingOf eachFrom recordLines textLine indentAt lineText fieldText valueText binaryText binarySuffix digitsOf digitChar bytesAt bytes answerOf classAnswer tableAnswer failureFor recordsFor acceptedAnswer refused topRows firstFailure layouts res0 wf mcr mcrr ldc sve ld64b bti pauth hvc brk fp breakpoint softwareStep watchpoint instructionAbort dataAbort serror msr passes rowsFor checksFor fieldOf recordOf subject keyOf placeIn meets refusalOf kindOf recordsOf textIn onList ruleAt describes byValue described codesOf texts textAt indexIn code firstOf textCode names rules registers
+unfolding listed ended listingOf eachFrom recordLinesWith textLineWith foundLine indentAt lineText fieldText valueText binaryText binarySuffix digitsOf digitChar bytesAt bytes answerOf classAnswer tableAnswer failureFor recordsFor acceptedAnswer refused topRows firstFailure layouts res0 wf mcr mcrr ldc sve ld64b bti pauth hvc brk fp breakpoint softwareStep watchpoint instructionAbort dataAbort serror msr passes rowsFor checksFor fieldOf recordOf subject keyOf placeIn meets refusalOf kindOf recordsOf textIn onList ruleAt describes byValue described codesOf texts textAt indexIn code firstOf textCode names rules registers
 in-full = refl
 
 listing-holds : ListingHolds

@@ -9,13 +9,14 @@ use Rattle.promise.specs.Member.{member}
 use Rattle.promise.proofs.Tests.{of-member}
 use Rattle.refusals.specs.Refusals.{reasonNumber, numbers, refusalNumber}
 use Rattle.refusals.specs.declared.Reason.{Reason}
-use Rattle.refusals.specs.declared.Reason.the-variants.{None, InvalidRes0, InvalidEc, InvalidFsc, InvalidSet, InvalidAet, InvalidAm, InvalidLd64bIss, Empty, InvalidDigit, PosOverflow, ShortBuffer, BadField, BadIndex, ShortEntry, BadLength, BadVersion, BadTable, LongRun, LongBlock, NoLayout, WideLeaf, BadRest, InvalidWu, InvalidVncr}
+use Rattle.refusals.specs.declared.Reason.the-variants.{None, InvalidRes0, InvalidEc, InvalidFsc, InvalidSet, InvalidAet, InvalidAm, InvalidLd64bIss, Empty, InvalidDigit, PosOverflow, ShortBuffer, BadField, BadIndex, ShortEntry, BadLength, BadVersion, BadTable, LongRun, LongBlock, NoLayout, WideLeaf, BadRest, InvalidWu, InvalidVncr, ShortSheet, BadSheetVersion, LongPhrase, CodeNotRising}
 use Rattle.refusals.specs.declared.Refusal.{Refusal}
 
 abbrev reasons : List Reason
 reasons =
     None ∷ InvalidRes0 ∷ InvalidEc ∷ InvalidFsc ∷ InvalidSet ∷ InvalidAet ∷ InvalidAm ∷ InvalidLd64bIss ∷ Empty ∷ InvalidDigit ∷ PosOverflow ∷
-    ShortBuffer ∷ BadField ∷ BadIndex ∷ ShortEntry ∷ BadLength ∷ BadVersion ∷ BadTable ∷ LongRun ∷ LongBlock ∷ NoLayout ∷ WideLeaf ∷ BadRest ∷ InvalidWu ∷ InvalidVncr ∷ []
+    ShortBuffer ∷ BadField ∷ BadIndex ∷ ShortEntry ∷ BadLength ∷ BadVersion ∷ BadTable ∷ LongRun ∷ LongBlock ∷ NoLayout ∷ WideLeaf ∷ BadRest ∷ InvalidWu ∷ InvalidVncr ∷
+    ShortSheet ∷ BadSheetVersion ∷ LongPhrase ∷ CodeNotRising ∷ []
 
 -- the reason of a number, and None where no reason has it
 abbrev reasonIn : List Reason → ℕ → Reason
@@ -52,6 +53,10 @@ known WideLeaf = (tt, refl)
 known BadRest = (tt, refl)
 known InvalidWu = (tt, refl)
 known InvalidVncr = (tt, refl)
+known ShortSheet = (tt, refl)
+known BadSheetVersion = (tt, refl)
+known LongPhrase = (tt, refl)
+known CodeNotRising = (tt, refl)
 
 pub number-listed : (f : Refusal) → List·Memᴰ (refusalNumber f) numbers
 number-listed f = of-member (refusalNumber f) numbers (known (f .reason) .0)

@@ -4,7 +4,7 @@ use mathlib.Core.Bool.{Bool}
 use mathlib.Core.List.{List, [], _∷_}
 use lib.Dec.{eqb}
 use Rattle.refusals.specs.declared.Reason.{Reason}
-use Rattle.refusals.specs.declared.Reason.the-variants.{None, InvalidRes0, InvalidEc, InvalidFsc, InvalidSet, InvalidAet, InvalidAm, InvalidLd64bIss, Empty, InvalidDigit, PosOverflow, ShortBuffer, BadField, BadIndex, ShortEntry, BadLength, BadVersion, BadTable, LongRun, LongBlock, NoLayout, WideLeaf, BadRest, InvalidWu, InvalidVncr}
+use Rattle.refusals.specs.declared.Reason.the-variants.{None, InvalidRes0, InvalidEc, InvalidFsc, InvalidSet, InvalidAet, InvalidAm, InvalidLd64bIss, Empty, InvalidDigit, PosOverflow, ShortBuffer, BadField, BadIndex, ShortEntry, BadLength, BadVersion, BadTable, LongRun, LongBlock, NoLayout, WideLeaf, BadRest, InvalidWu, InvalidVncr, ShortSheet, BadSheetVersion, LongPhrase, CodeNotRising}
 use Rattle.refusals.specs.declared.Refusal.{Refusal}
 
 -- 0 where nothing is refused
@@ -34,10 +34,14 @@ reasonNumber WideLeaf = 22
 reasonNumber BadRest = 23
 reasonNumber InvalidWu = 24
 reasonNumber InvalidVncr = 25
+reasonNumber ShortSheet = 26
+reasonNumber BadSheetVersion = 27
+reasonNumber LongPhrase = 28
+reasonNumber CodeNotRising = 29
 
 -- the numbers of 01's table and of 02's requests, and 0. 17 is unused for good (02's #111)
 unfoldable pub numbers : List ℕ
-numbers = 0 ∷ 1 ∷ 2 ∷ 3 ∷ 4 ∷ 5 ∷ 6 ∷ 7 ∷ 8 ∷ 9 ∷ 10 ∷ 11 ∷ 12 ∷ 13 ∷ 14 ∷ 15 ∷ 16 ∷ 18 ∷ 19 ∷ 20 ∷ 21 ∷ 22 ∷ 23 ∷ 24 ∷ 25 ∷ []
+numbers = 0 ∷ 1 ∷ 2 ∷ 3 ∷ 4 ∷ 5 ∷ 6 ∷ 7 ∷ 8 ∷ 9 ∷ 10 ∷ 11 ∷ 12 ∷ 13 ∷ 14 ∷ 15 ∷ 16 ∷ 18 ∷ 19 ∷ 20 ∷ 21 ∷ 22 ∷ 23 ∷ 24 ∷ 25 ∷ 26 ∷ 27 ∷ 28 ∷ 29 ∷ []
 
 abbrev pub refusalNumber : Refusal → ℕ
 refusalNumber f = reasonNumber (f .reason)

@@ -28,6 +28,10 @@ pub enum Reason {
     BadRest,
     InvalidWu,
     InvalidVncr,
+    ShortSheet,
+    BadSheetVersion,
+    LongPhrase,
+    CodeNotRising,
 }
 
 impl Reason {
@@ -61,6 +65,10 @@ impl Reason {
             Reason::BadRest => 23,
             Reason::InvalidWu => 24,
             Reason::InvalidVncr => 25,
+            Reason::ShortSheet => 26,
+            Reason::BadSheetVersion => 27,
+            Reason::LongPhrase => 28,
+            Reason::CodeNotRising => 29,
         }
     }
 }

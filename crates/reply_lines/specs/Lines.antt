@@ -14,7 +14,7 @@ use Rattle.texts.specs.Rules.{ownWords}
 unfoldable pub numberLine : List ℕ → ℕ → ℕ → List ℕ
 numberLine front base n = front ++ numeral base n ++ bytes "\n"
 
--- The refusals of a value, 1 to 7, have the Rust's message, those of lines and of entries words of our own. The others, 11 to 13, are not said of a
+-- The refusals of a value, 1 to 7, have the Rust's message, those of lines, of entries, of strict reading and of sheets words of our own. The others are not said of a
 -- line or of an entry, and have no words.
 unfoldable pub why : Refusal → List ℕ
 why f =

@@ -404,7 +404,7 @@ messageEnd =
     7 means " for trapped LD64B or ST64B*" ∷
     [])
 
--- Words of our own for the refusals of lines, of entries and of strict reading (02 adds some up to 29), by the refusal's number.
+-- Words of our own for the refusals of lines, of entries, of strict reading and of sheets, by the refusal's number.
 abbrev pub ownWords : Rule
 ownWords =
     rule 47 32 (
@@ -418,6 +418,10 @@ ownWords =
     23 means "something else stands behind the number" ∷
     24 means "WU is 1, which is reserved" ∷
     25 means "VNCR is not 0, and the core has no nested virtualisation" ∷
+    26 means "the sheet ends too early" ∷
+    27 means "the sheet's version is not 1" ∷
+    28 means "a phrase runs past the end of its sheet" ∷
+    29 means "a phrase's code is not above the one before it" ∷
     [])
 
 -- Direction of MSR and MRS (#108: "text Read (1) or Write (0)")

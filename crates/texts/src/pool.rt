@@ -1,11 +1,11 @@
 // The pool, where each text starts in it, and the first code of each rule of more than one bit. Written by tools/pool from the
 // strings of specs/Names.antt, specs/Rules.antt and the registers; the prover shows that it is their bytes.
 
-pub const LENGTH: usize = 8511;
+pub const LENGTH: usize = 8648;
 pub const COUNT: usize = 597;
 pub const START_COUNT: usize = 598;
 
-pub const POOL: [u8; 8511] = *b"\
+pub const POOL: [u8; 8648] = *b"\
     RES0\
     Reserved\
     ISS2\
@@ -320,6 +320,10 @@ pub const POOL: [u8; 8511] = *b"\
     something else stands behind the number\
     WU is 1, which is reserved\
     VNCR is not 0, and the core has no nested virtualisation\
+    the sheet ends too early\
+    the sheet's version is not 1\
+    a phrase runs past the end of its sheet\
+    a phrase's code is not above the one before it\
     Write\
     Read\
     DBGBVR0_EL1\
@@ -421,12 +425,12 @@ pub const STARTS: [u16; 598] = [
     7339, 7339, 7339, 7339, 7339, 7339, 7339, 7339, 7339, 7339, 7339, 7339, 7339, 7339, 7339, 7339,
     7339, 7339, 7339, 7359, 7359, 7380, 7391, 7412, 7424, 7436, 7447, 7459, 7459, 7466, 7466, 7466,
     7466, 7466, 7466, 7494, 7494, 7494, 7494, 7494, 7494, 7494, 7494, 7494, 7511, 7534, 7565, 7565,
-    7565, 7565, 7600, 7628, 7656, 7656, 7656, 7656, 7693, 7693, 7693, 7732, 7758, 7814, 7814, 7814,
-    7814, 7814, 7814, 7814, 7819, 7823, 7834, 7843, 7852, 7861, 7869, 7878, 7888, 7903, 7918, 7933,
-    7949, 7965, 7981, 7997, 8013, 8022, 8031, 8040, 8049, 8058, 8065, 8073, 8080, 8091, 8100, 8109,
-    8116, 8123, 8130, 8138, 8147, 8155, 8162, 8173, 8186, 8198, 8211, 8223, 8235, 8246, 8261, 8275,
-    8284, 8295, 8305, 8314, 8324, 8331, 8340, 8348, 8362, 8374, 8385, 8398, 8407, 8418, 8428, 8438,
-    8448, 8461, 8473, 8486, 8498, 8511,
+    7565, 7565, 7600, 7628, 7656, 7656, 7656, 7656, 7693, 7693, 7693, 7732, 7758, 7814, 7838, 7866,
+    7905, 7951, 7951, 7951, 7956, 7960, 7971, 7980, 7989, 7998, 8006, 8015, 8025, 8040, 8055, 8070,
+    8086, 8102, 8118, 8134, 8150, 8159, 8168, 8177, 8186, 8195, 8202, 8210, 8217, 8228, 8237, 8246,
+    8253, 8260, 8267, 8275, 8284, 8292, 8299, 8310, 8323, 8335, 8348, 8360, 8372, 8383, 8398, 8412,
+    8421, 8432, 8442, 8451, 8461, 8468, 8477, 8485, 8499, 8511, 8522, 8535, 8544, 8555, 8565, 8575,
+    8585, 8598, 8610, 8623, 8635, 8648,
 ];
 
 // The rules of one bit have two codes each, from here on.

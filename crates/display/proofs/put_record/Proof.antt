@@ -1,13 +1,13 @@
 -- Four appenders, one after the other.
 use borrow.Author.Needs.{needs}
 use Rattle.buffer.proofs.Appending.{and-then}
-use Rattle.display.specs.Listings.{recordLines}
+use Rattle.display.specs.Listings.{recordLinesWith}
 use Rattle.texts.specs.Pool.{bytes}
 use Rattle.display.proofs.put_record.Statement.{statement}
 use Rattle.display.proofs.put_record.Tie as tie
 
 returns : tie.Need-returns
-unfolding recordLines bytes
+unfolding recordLinesWith bytes
 returns c =
     let b = c .before .before .before .before .before .before in
     let l = b .before .before .before .before .before in
