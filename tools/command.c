@@ -12,7 +12,7 @@ LINUX_START;
 
 /* A program is proved, and asks for what is defined below alone. It is null where it was not linked. */
 typedef int program(void);
-__attribute__((weak)) program esr_listing, esr_records, esr_number, esr_entry, esr_walk, esr_survey, esr_survey_sum, esr_make;
+__attribute__((weak)) program esr_listing, esr_records, esr_number, esr_entry, esr_walk, esr_survey, esr_survey_sum, esr_make, esr_sheet;
 
 long read(int file, void *bytes, size_t length);
 long write(int file, const void *bytes, size_t length);
@@ -25,6 +25,10 @@ enum { ANSWERED = 0, REFUSED = 1, FAILED = 2 };
 /* The program's own option, which is its argument 1, and how values are read (#110), which is its argument 2; or null. */
 static const char *option;
 static const char *profile;
+/* The file of the workshop's phrase sheet (#112), NULL without one. The sheet is its argument 4, and argument 3 says that there is one. Bytes past the longest sheet are not read. */
+static const char *sheet_name;
+static uint8_t sheet[65537];
+static size_t sheet_length;
 /* Where the input comes from: an open file and the names of those that follow it, or words that are left. */
 static int source = IN;
 static char **files;
@@ -178,20 +182,43 @@ static long of_files(char *bytes, size_t length) {
     }
 }
 
+/* Reads the sheet, if there is one, as far as one can go. */
+static void read_sheet(void) {
+    if (sheet_name == NULL) {
+        return;
+    }
+    long file = opened(sheet_name);
+    long came = file;
+    while (came >= 0 && sheet_length < sizeof sheet) {
+        came = call(READ, file, (long)(sheet + sheet_length), (long)(sizeof sheet - sheet_length));
+        if (came == 0) {
+            break;
+        }
+        sheet_length += came < 0 ? 0 : (size_t)came;
+    }
+    if (came < 0) {
+        fail(sheet_name, " cannot be read", reason(came));
+    }
+    call(CLOSE, file, 0, 0);
+}
+
 /* ---- what the programs ask for */
+
+static long handed(const uint8_t *given, size_t count, uint8_t *bytes, size_t length) {
+    const long too_long = -2;
+    for (size_t i = 0; i < count && i < length; i++) {
+        bytes[i] = given[i];
+    }
+    return count <= length ? (long)count : too_long;
+}
 
 long rattle_arg(size_t index, uint8_t *bytes, size_t length) {
     const long missing = -1;
-    const long too_long = -2;
-    const char *given = index == 1 ? option : index == 2 ? profile : NULL;
-    if (given == NULL) {
-        return missing;
+    const char *given = index == 1 ? option : index == 2 ? profile : index == 3 && sheet_name != NULL ? "--sheet" : NULL;
+    if (index == 4 && sheet_name != NULL) {
+        return handed(sheet, sheet_length, bytes, length);
     }
-    size_t count = length_of(given);
-    for (size_t i = 0; i < count && i < length; i++) {
-        bytes[i] = (uint8_t)given[i];
-    }
-    return count <= length ? (long)count : too_long;
+    return given == NULL ? missing : handed((const uint8_t *)given, length_of(given), bytes, length);
 }
 
 /* No program looks at what is set. */
@@ -266,16 +293,20 @@ static int is_terminal(int file) {
     return call(CONTROL, file, get_settings, (long)settings) == 0;
 }
 
-static void run(program *asked, char **given) {
+static void start(program *asked) {
     if (asked == NULL) {
         fail("this command was linked without that program", "", "");
     }
+    asked();
+}
+
+static void run(program *asked, char **given) {
     if (*given != NULL) {
         words = given;
     } else if (source == IN && is_terminal(IN)) {
         tell("esr: reading standard input; 'esr help' tells what else there is\n");
     }
-    asked();
+    start(asked);
 }
 
 /* The words are files. */
@@ -333,6 +364,26 @@ static char **after_profile(char **given) {
     return given;
 }
 
+/* The words after those that name the workshop's sheet, and those that say how values are read. */
+static char **after_sheet(char **given) {
+    given = after_profile(given);
+    if (*given == NULL || !is(*given, "--sheet")) {
+        return given;
+    }
+    if (given[1] == NULL) {
+        fail("a file is missing: ", "esr --sheet FILE VALUE..", "");
+    }
+    sheet_name = given[1];
+    return after_profile(given + 2);
+}
+
+/* Only a listing takes its texts from a sheet. */
+static void expect_no_sheet(const char *command) {
+    if (sheet_name != NULL) {
+        fail("there is no sheet for '", command, "'; 'esr help' tells what there is");
+    }
+}
+
 /* A command that reads no syndrome cannot read one strictly. */
 static void expect_no_profile(const char *command) {
     if (profile != NULL) {
@@ -373,9 +424,30 @@ static void make(char **given) {
     run(esr_make, numbers);
 }
 
+/* The standard sheet, in bytes or in lines; or the sheet that lines make. A sheet has no lines, and what is refused is told apart from it. */
+static void write_sheet(char **given) {
+    static const char *const options[] = {"--text", "--from", NULL};
+    char **names = after_option(given, options);
+    is_watched = 0;
+    if (option != NULL && is(option, "--from")) {
+        run_on_file(esr_sheet, names, "esr sheet --from FILE");
+    } else if (*names != NULL) {
+        fail("no file is read for the standard sheet: '", *names, "'; 'esr help' tells what there is");
+    } else {
+        start(esr_sheet);
+    }
+}
+
+static int is_value(const char *word) {
+    return word[0] == 0 || word[0] == '+' || ('0' <= word[0] && word[0] <= '9');
+}
+
 static void obey(char **given) {
-    given = after_profile(given);
+    given = after_sheet(given);
     const char *first = *given != NULL ? *given : "";
+    if (!is_value(first) && !is(first, "--remarks")) {
+        expect_no_sheet(first);
+    }
     if (is(first, "help") || is(first, "--help") || is(first, "-h")) {
         say(HELP);
     } else if (is(first, "version") || is(first, "--version")) {
@@ -394,9 +466,13 @@ static void obey(char **given) {
     } else if (is(first, "make")) {
         expect_no_profile(first);
         make(given + 1);
-    } else if (first[0] != 0 && first[0] != '+' && (first[0] < '0' || '9' < first[0]) && !is(first, "--remarks")) {
+    } else if (is(first, "sheet")) {
+        expect_no_profile(first);
+        write_sheet(given + 1);
+    } else if (!is_value(first) && !is(first, "--remarks")) {
         fail("no command '", first, "', and a value begins with a digit; 'esr help' tells what there is");
     } else {
+        read_sheet();
         run_on_values(esr_listing, given);
     }
 }

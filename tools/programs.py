@@ -23,8 +23,9 @@ JOBS = ROOM / "jobs"  # a folder for each crate that is being proved, in which r
 SHARED = ("rlib", "stamp", "obj", "bin")  # what rt leaves for the crates above
 LISTING = "esr_listing"
 # The command's words, each with the program that it asks for; without one of them it is the listing.
-COMMANDS = {"records": "esr_records", "number": "esr_number", "entry": "esr_entry", "walk": "esr_walk", "survey": "esr_survey", "make": "esr_make"}
+COMMANDS = {"records": "esr_records", "number": "esr_number", "entry": "esr_entry", "walk": "esr_walk", "survey": "esr_survey", "make": "esr_make", "sheet": "esr_sheet"}
 PROFILE = ("--strict", "--nested")
+SHEET = "--sheet"
 # A survey of surveys has a program of its own.
 SUM = ["survey", "--add"]
 PROGRAMS = (LISTING, *COMMANDS.values(), "esr_survey_sum")
@@ -42,9 +43,15 @@ def after_profile(words):
     return list(itertools.dropwhile(PROFILE.__contains__, words))
 
 
+def after_sheet(words):
+    """The words after those that name the workshop's sheet (#112), and those that say how values are read."""
+    words = after_profile(words)
+    return after_profile(words[2:]) if words[:1] == [SHEET] else words
+
+
 def asked(words):
     """The program that the words of a command line ask for."""
-    words = after_profile(words)
+    words = after_sheet(words)
     if words[: len(SUM)] == SUM:
         return PROGRAMS[-1]
     return COMMANDS.get(words[0] if words else "", LISTING)

@@ -93,6 +93,85 @@ def listing_answer(second, esr, codes, workshop, standard, length):
     return filled(0, 0, 0, 0, text, length) + "\n"
 
 
+# ---- `esr sheet`, and `esr --sheet FILE`
+
+
+def phrases_of(sheet):
+    """The codes and texts of a sound sheet."""
+    return {code: sheet[offset : offset + count] for code, (offset, count) in read(sheet)[1].items()}
+
+
+def lines_of(sheet):
+    """A sound sheet in lines to translate."""
+    return b"".join(b"%d %s\n" % phrase for phrase in phrases_of(sheet).items())
+
+
+def made(second, given, standard):
+    """The sheet that lines make, what is told, and the status, where the standard sheet is this."""
+    phrases, least, known = [], 0, phrases_of(standard)
+    for place, line in enumerate(second.lines_of(given), 1):
+        refusal, code, taken = second.front_number(line)
+        text, why = line[taken + 1 :], None
+        if refusal:
+            why = "it begins with no number"
+        elif code not in known:
+            why = "no text has this code"
+        elif code < least:
+            why = "its code is not above the one before it"
+        elif len(text) > 255:
+            why = "its text has more than 255 bytes"
+        if why:
+            return b"", f"refused: line {place}: {why}\n".encode(), 1
+        phrases.append((code, text))
+        least = code + 1
+    return sheet_of(phrases), b"", 0
+
+
+def line_inputs(standard):
+    """Lines that make a sheet, and lines of which one is refused, by what they are."""
+    known = phrases_of(standard)
+    first, second, *_, last = sorted(known)
+    return {
+        "no line": b"",
+        "every text": lines_of(standard),
+        "no line feed at the end": b"%d a\n%d b" % (first, last),
+        "a text with spaces about it": b"%d  a \n" % first,
+        "an empty text": b"%d \n%d\n%d" % (first, second, last),
+        "a code in hexadecimal, and a tab": b"0x%x\ta\n" % first,
+        "a carriage return": b"%d a\r\n" % first,
+        "bytes that are no text": b"%d \x00\xff\n" % first,
+        "255 bytes": b"%d %s\n" % (first, b"x" * 255),
+        "256 bytes": b"%d %s\n" % (first, b"x" * 256),
+        "200,000 bytes": b"%d a\n%d %s\n" % (first, second, b"x" * 200000),
+        "an empty line": b"%d a\n\n" % first,
+        "no number": b"%d a\nx a\n" % first,
+        "a number past 64 bits": b"18446744073709551616 a\n",
+        "a code that is no text": b"%d a\n0 a\n" % first,
+        "a code past all": b"%d a\n65536 a\n" % last,
+        "a code twice": b"%d a\n%d b\n" % (first, first),
+        "codes that fall": b"%d a\n%d b\n%d c\n" % (first, last, second),
+        "the longest sheet": b"".join(b"%d %s\n" % (code, b"x" * 255) for code in sorted(known)),
+    }
+
+
+def codes_in(second, esr, workshop, standard):
+    """A code for each record's text, 0 where there is none: the workshop's own before others that have the same text."""
+    known, ours = phrases_of(standard), phrases_of(workshop)
+    by_text = {text.decode(): code for code, text in sorted(known.items(), key=lambda phrase: phrase[0] in ours)}
+    return [by_text[text] if text else 0 for *_, text in second.records(esr)]
+
+
+def listed(second, esr, workshop, standard):
+    """What `esr --sheet FILE VALUE` writes, and its status."""
+    refusal = second.refusal_of(esr)
+    if refusal is not None:
+        return second.answered(esr).encode(), 1
+    bad = read_both(workshop, standard)[0]
+    if bad:
+        return f"refused {bad}: {second.WORDS[bad]}\n".encode(), 1
+    return listing(second, esr, codes_in(second, esr, workshop, standard), workshop, standard), 0
+
+
 # ---- what is asked
 
 

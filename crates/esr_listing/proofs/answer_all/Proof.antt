@@ -6,10 +6,10 @@ use Rattle.esr_listing.proofs.answer_all.Statement.{statement}
 use Rattle.esr_listing.proofs.answer_all.Tie as tie
 
 abbrev Inv-loop : tie.InvT-loop
-Inv-loop rest part₀ buf₀ standing₀ turns₀ part buf standing turns = (length part ≡ length part₀) × (length buf ≡ length buf₀)
+Inv-loop asked workshop standard part₀ buf₀ standing₀ turns₀ part buf standing turns = (length part ≡ length part₀) × (length buf ≡ length buf₀)
 
 abbrev μ-loop : tie.MeasureT-loop
-μ-loop rest part₀ buf₀ standing₀ turns₀ part buf standing turns = turns
+μ-loop asked workshop standard part₀ buf₀ standing₀ turns₀ part buf standing turns = turns
 
 pub answer-all-spec : {M : Type 1} → statement M
 answer-all-spec =
@@ -25,7 +25,6 @@ answer-all-spec =
     (λ c. search needs)
     (λ c. search needs)
     (λ c. search needs)
-    (λ c κs. search needs)
     (λ c. search needs)
     (λ c. search needs)
     (λ c. search needs)
