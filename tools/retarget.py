@@ -54,7 +54,7 @@ ARCHIVED = {
 }
 # With the functions that are lent the texts compiled into their callers, clang sees that nothing writes to the copy on the stack, and reads the one constant in
 # its place.
-IN_PLACE = ("-mllvm", "-inline-threshold=1500")
+IN_PLACE = ("-mllvm", "-inline-threshold=2500")
 # One of this size is called and not copied: the maker calls it in two places.
 APART = ("layouts::layout_of",)
 LINUX = {machine: (f"--target={machine}-unknown-linux-gnu", "-fPIE") for machine in MACHINES}
