@@ -28,13 +28,13 @@ use Rattle.tables.specs.Applying.{rowsFor}
 use Rattle.tables.specs.Tables.{topRows, Served, layouts, res0, wf, mcr, mcrr, ldc, sve, ld64b, bti, pauth, hvc, brk, fp, breakpoint, softwareStep, watchpoint, instructionAbort, dataAbort, serror, msr}
 use Rattle.tables.proofs.Sound.{always, always-at}
 use Rattle.texts.specs.Names.{names}
-use Rattle.texts.specs.Rules.{Text, Rule, plain, rules}
+use Rattle.texts.specs.Rules.{Text, Rule, plain, message, ownWords, rules}
 use Rattle.texts.specs.Pool.{nameRoom, code, indexIn, onList, ruleAt, describes, firstOf, codesOf, textCode, texts, described, byValue, textIn, textAt, bytes, bytesAt}
 
 -- Each text of a rule that is no message's is there.
 
 abbrev messageRule : ℕ → Bool
-messageRule n = leb 45 n && ltb n 48
+messageRule n = leb (message .number) n && leb n (ownWords .number)
 
 abbrev there : ℕ → ℕ → Text → Bool
 there first i t = isRecords (first + t .value)
