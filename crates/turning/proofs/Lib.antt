@@ -1,0 +1,4 @@
+pub mod Fields
+pub mod Kept
+pub mod Named
+pub mod Turned
