@@ -2,3 +2,5 @@ pub mod Fields
 pub mod Kept
 pub mod Named
 pub mod Turned
+pub mod Answers
+pub mod Listings

@@ -20,7 +20,7 @@ use Rattle.turning.proofs.Fields.{Apart}
 use Rattle.turning.proofs.Kept.{asked, asked-is}
 
 -- a field is on a list
-abbrev onList : Field → List Field → Bool
+abbrev pub onList : Field → List Field → Bool
 onList f [] = false
 onList f (g ∷ gs) = same f g || onList f gs
 
@@ -62,7 +62,7 @@ all-free = tt
 
 -- What the test shows of a value's rows and of what is asked of it.
 
-either : (a b : Bool) → T (a || b) → T a ⊎ T b
+pub either : (a b : Bool) → T (a || b) → T a ⊎ T b
 either true b t = inl t
 either false b t = inr t
 
@@ -71,7 +71,7 @@ same-field f g t =
     ap₂ (λ (s w : ℕ). record { start = s; width = w }) (eqb→eq (f .start) (g .start) (both-left (eqb (f .start) (g .start)) _ t))
     (eqb→eq (f .width) (g .width) (both-right (eqb (f .start) (g .start)) _ t))
 
-on-list : (f : Field) (gs : List Field) → T (onList f gs) → List·Memᴰ f gs
+pub on-list : (f : Field) (gs : List Field) → T (onList f gs) → List·Memᴰ f gs
 on-list f [] t = absurd t
 on-list f (g ∷ gs) t = by (either (same f g) (onList f gs) t) (on-list f gs)
   where

@@ -6,7 +6,7 @@ use mathlib.Core.Path.{_≡_}
 use Rattle.records.specs.declared.Record.{Record}
 use Rattle.records.specs.declared.Row.{Row}
 use Rattle.tables.specs.Tables.{issUnder}
-use Rattle.display.specs.Listings.{recordLines}
+use Rattle.display.specs.Listings.{recordLines, listing}
 use Rattle.turning.specs.Turning.{InIss}
 
 -- one part for each record, the first with this index
@@ -29,3 +29,9 @@ pub data PartsStand (turned : Row) : List Row → List (List ℕ) → List (List
       → PartsStand turned (row ∷ rows) (p ∷ ps) (q ∷ qs)
   except : {row : Row} {p q : List ℕ} {rows : List Row} {ps qs : List (List ℕ)} → Excepted turned row → PartsStand turned rows ps qs
       → PartsStand turned (row ∷ rows) (p ∷ ps) (q ∷ qs)
+
+-- each listing is its parts, one after the other
+pub record ListingsStand (turned : Row) (rows : List Row) (lookup : ℕ → List ℕ) (l k : List Record) : Type 0 where
+  pub first : listing lookup l ≡ joined (partsFrom lookup 0 l)
+  pub second : listing lookup k ≡ joined (partsFrom lookup 0 k)
+  pub parts : PartsStand turned rows (partsFrom lookup 0 l) (partsFrom lookup 0 k)
