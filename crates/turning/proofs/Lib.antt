@@ -4,3 +4,4 @@ pub mod Named
 pub mod Turned
 pub mod Answers
 pub mod Listings
+pub mod Examples

@@ -66,7 +66,7 @@ pub either : (a b : Bool) → T (a || b) → T a ⊎ T b
 either true b t = inl t
 either false b t = inr t
 
-same-field : (f g : Field) → T (same f g) → f ≡ g
+pub same-field : (f g : Field) → T (same f g) → f ≡ g
 same-field f g t =
     ap₂ (λ (s w : ℕ). record { start = s; width = w }) (eqb→eq (f .start) (g .start) (both-left (eqb (f .start) (g .start)) _ t))
     (eqb→eq (f .width) (g .width) (both-right (eqb (f .start) (g .start)) _ t))

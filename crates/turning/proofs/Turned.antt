@@ -108,7 +108,7 @@ one-layout v a b j k = by (class-of v)
     by (servedBy s c u n q) = u a j ∙ sym (u b k)
 
 -- the rows that apply to a value are those that its layout keeps
-rows-are : (v : ℕ) (s : Served) (rows : List Row) → Classed v s → Applying v (s .table .lines) rows → rows ≡ keep (atIss v) (s .table .lines)
+pub rows-are : (v : ℕ) (s : Served) (rows : List Row) → Classed v s → Applying v (s .table .lines) rows → rows ≡ keep (atIss v) (s .table .lines)
 rows-are v s rows k a = applying-is v 0 (s .table .lines) rows (fitted-lines {s = s} (k .layout)) a
 
 -- the records of a reading, by its layout

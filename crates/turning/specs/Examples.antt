@@ -4,6 +4,7 @@ use Prim.Native.Nat.{ℕ}
 use mathlib.Core.List.{List, [], _∷_, map, List·Memᴰ}
 use mathlib.Core.Path.{_≡_}
 use Rattle.records.specs.declared.Record.{Record}
+use Rattle.esr.specs.Decode.{classOf}
 use Rattle.reading.specs.Reading.{Reading}
 use Rattle.turning.specs.Turning.{Field, bitsOf, DifferInside, leafRows, namedIn}
 
@@ -44,3 +45,10 @@ pub record Shown (e : Example) : Type 0 where
   pub leaf : List·Memᴰ (e .field) (map bitsOf (leafRows (first .served .table .issRule) (first .rows)))
   pub named : List·Memᴰ (e .field) (namedIn (first .served .table))
   pub otherRows : first .rows ≡ second .rows → ⊥
+
+-- an example of a field, in one of these classes
+pub record Covered (f : Field) (classes : List ℕ) (es : List Example) : Type 0 where
+  pub example : Example
+  pub among : List·Memᴰ example es
+  pub field : example .field ≡ f
+  pub class : List·Memᴰ (classOf (example .first)) classes
