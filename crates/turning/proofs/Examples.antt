@@ -1,7 +1,7 @@
 -- Each named field can be turned so that the rows change: one table of examples, which antt computes, has one for each field that a table's conditions ask,
 -- and one for the class.
 use mathlib.Core.Path.{_≡_, refl, sym, ap, _∙_, subst}
-use mathlib.Core.Bool.{Bool, true, false, cond, not, _&&_, _||_}
+use mathlib.Core.Bool.{Bool, true, false, cond, not, _&&_}
 use mathlib.Core.List.{List, [], _∷_, _++_, map, List·Memᴰ, List·Memᴰ·head, List·Memᴰ·tail}
 use mathlib.Core.Logic.{_⊎_, inl, inr}
 use Prim.Native.Nat.{ℕ, _/_, _%_, _^_}
@@ -23,7 +23,7 @@ use Rattle.esr.specs.Decode.{firstFailure, refused, accepted, failureFor, recor
 use Rattle.reading.specs.Reading.{Classed, Reading}
 use Rattle.reading.specs.ReadAs.{ReadAs}
 use Rattle.reading.specs.Refusing.{refusing}
-use Rattle.reading.proofs.HasBits.{bits-is}
+use Rattle.reading.proofs.HasBits.{bits-is, bits-of}
 use Rattle.reading.proofs.Applies.{atIss}
 use Rattle.reading.proofs.Outcome.{not-zero}
 use Rattle.reading.proofs.Reading.{accepted-read, accepted-or-refused}
@@ -185,10 +185,10 @@ isOf f classes e = same (e .field) f && member (classOf (e .first)) classes
 
 abbrev amongExamples : Field → List ℕ → List Example → Bool
 amongExamples f classes [] = false
-amongExamples f classes (e ∷ es) = isOf f classes e || amongExamples f classes es
+amongExamples f classes (e ∷ es) = cond (isOf f classes e) true (amongExamples f classes es)
 
 abbrev hasExample : List ℕ → ℕ → Field → Bool
-hasExample classes i f = same f (bitsOf class) || amongExamples f classes examples
+hasExample classes i f = cond (same f (bitsOf class)) true (amongExamples f classes examples)
 
 abbrev hasExamples : ℕ → Served → Bool
 hasExamples i s = every (hasExample (s .classes)) 0 (namedIn (s .table))
@@ -207,7 +207,7 @@ covered f classes (e ∷ es) t = by (either (isOf f classes e) _ t) (covered f c
           example = e;
           among = List·Memᴰ·head refl;
           field = same-field (e .field) f (both-left (same (e .field) f) _ h);
-          class = of-member (classOf (e .first)) classes (both-right (same (e .field) f) _ h);
+          class = record { class = classOf (e .first); has = bits-of (e .first) 26 6; among = of-member (classOf (e .first)) classes (both-right (same (e .field) f) _ h) };
         }
     by (inr h) rest = let c : Covered f classes es = rest h in record { example = c .example; among = List·Memᴰ·tail (c .among); field = c .field; class = c .class }
 

@@ -1,39 +1,39 @@
 -- The named fields are those of 02's list, class by class; and a leaf that is not named shares no bit with the class or with what is asked of the value.
 -- Each is one test of all tables, under every outcome of their conditions, which antt computes.
 use mathlib.Core.Path.{_≡_, refl, sym, ap, ap₂, _∙_, subst}
-use mathlib.Core.Bool.{Bool, true, false, cond, not, _&&_, _||_}
+use mathlib.Core.Bool.{Bool, true, false, cond, not, _&&_}
 use mathlib.Core.List.{List, [], _∷_, _++_, map, List·Memᴰ, List·Memᴰ·head, List·Memᴰ·tail}
 use mathlib.Core.Logic.{_⊎_, inl, inr}
 use Prim.Native.Nat.{ℕ, _+_, _≤_}
-use lib.Dec.{T, eqb, leb, eqb→eq, leb→le}
+use lib.Dec.{T, eqb, leb, eqb→eq, eqb-refl, leb→le}
 use lib.ListN.{length, take, length-map}
-use Rattle.promise.proofs.Tests.{both-left, both-right, every, every-mem, is-true}
-use Rattle.texts.specs.Rules.{plain, systemRegister}
+use Rattle.promise.proofs.Tests.{both-left, both-right, both-intro, or-left, or-right, every, every-mem}
+use Rattle.texts.specs.Rules.{plain}
 use Rattle.records.specs.declared.Row.{Row}
 use Rattle.tables.specs.Shape.{Test, Table, tests}
 use Rattle.tables.specs.Applying.{keep}
 use Rattle.tables.specs.Tables.{class, topRows, Served, layouts, res0, wf, mcr, mcrr, ldc, sve, ld64b, bti, pauth, hvc, brk, fp, breakpoint, softwareStep, watchpoint, instructionAbort, dataAbort, serror, msr}
 use Rattle.tables.proofs.Laws.{given, knowsLines, keep-is}
 use Rattle.tables.proofs.Sound.{atAll, all-at, named}
-use Rattle.turning.specs.Turning.{Field, bitsOf, askedBy, leafRows, namedIn, same, once}
+use Rattle.turning.specs.Turning.{Field, bitsOf, askedBy, same, once, leafRows, namedIn, namesRegister}
 use Rattle.turning.proofs.Fields.{Apart}
 use Rattle.turning.proofs.Kept.{asked, asked-is}
 
 -- a field is on a list
 abbrev pub onList : Field → List Field → Bool
 onList f [] = false
-onList f (g ∷ gs) = same f g || onList f gs
+onList f (g ∷ gs) = cond (same f g) true (onList f gs)
 
 -- two fields share no bit
 abbrev areApart : Field → Field → Bool
-areApart f g = leb (f .start + f .width) (g .start) || leb (g .start + g .width) (f .start)
+areApart f g = cond (leb (f .start + f .width) (g .start)) true (leb (g .start + g .width) (f .start))
 
 -- what is asked lies in ISS, and shares no bit with a field
 abbrev asksElsewhere : Field → ℕ → Test → Bool
 asksElsewhere f i t = leb (t .start + t .width) 25 && areApart f (askedBy t)
 
 abbrev standsFree : Table → List Test → ℕ → Row → Bool
-standsFree t us i r = onList (bitsOf r) (namedIn t) || (areApart (bitsOf r) (bitsOf class) && every (asksElsewhere (bitsOf r)) 0 us)
+standsFree t us i r = cond (onList (bitsOf r) (namedIn t)) true (areApart (bitsOf r) (bitsOf class) && every (asksElsewhere (bitsOf r)) 0 us)
 
 abbrev pub someRow : List Row → Bool
 someRow [] = false
@@ -47,7 +47,7 @@ freeUnder t f = freeAt t (keep f (t .lines)) (asked f (t .lines))
 
 -- ISS has no text, or that of #108
 abbrev issText : Table → Bool
-issText t = eqb (t .issRule) (plain .number) || eqb (t .issRule) (systemRegister .number)
+issText t = cond (eqb (t .issRule) (plain .number)) true (namesRegister (t .issRule))
 
 abbrev freeBy : List Test → Table → Bool
 freeBy ts t = issText t && (knowsLines ts (t .lines) && atAll (length ts) (λ (bs : List Bool). freeUnder t (given ts bs)))
@@ -62,7 +62,7 @@ all-free = tt
 
 -- What the test shows of a value's rows and of what is asked of it.
 
-pub either : (a b : Bool) → T (a || b) → T a ⊎ T b
+pub either : (a b : Bool) → T (cond a true b) → T a ⊎ T b
 either true b t = inl t
 either false b t = inr t
 
@@ -78,6 +78,10 @@ on-list f (g ∷ gs) t = by (either (same f g) (onList f gs) t) (on-list f gs)
     by : T (same f g) ⊎ T (onList f gs) → (T (onList f gs) → List·Memᴰ f gs) → List·Memᴰ f (g ∷ gs)
     by (inl e) rest = List·Memᴰ·head (same-field f g e)
     by (inr m) rest = List·Memᴰ·tail (rest m)
+
+pub mem-on : (f : Field) (gs : List Field) → List·Memᴰ f gs → T (onList f gs)
+mem-on f (g ∷ gs) (List·Memᴰ·head e) = or-left (same f g) (onList f gs) (subst (λ (h : Field). T (same f h)) e (both-intro (eqb (f .start) (f .start)) _ (eqb-refl (f .start)) (eqb-refl (f .width))))
+mem-on f (g ∷ gs) (List·Memᴰ·tail m) = or-right (same f g) (onList f gs) (mem-on f gs m)
 
 apart-by : (f g : Field) → T (areApart f g) → Apart f g
 apart-by f g t = by (either (leb (f .start + f .width) (g .start)) _ t)
@@ -132,13 +136,12 @@ module _ (s : Served) (m : List·Memᴰ s layouts) where
       (both-right (someRow (keep f (s .table .lines))) _ (under f)) l in
       elsewhere (s .table) (asked f (s .table .lines)) (e .0) row (e .1) n
 
-  pub iss-text : (s .table .issRule ≡ plain .number) ⊎ (s .table .issRule ≡ systemRegister .number)
+  pub iss-text : (s .table .issRule ≡ plain .number) ⊎ T (namesRegister (s .table .issRule))
   iss-text = by (either (eqb (s .table .issRule) (plain .number)) _ (both-left (issText (s .table)) _ here))
     where
-      by : T (eqb (s .table .issRule) (plain .number)) ⊎ T (eqb (s .table .issRule) (systemRegister .number))
-          → (s .table .issRule ≡ plain .number) ⊎ (s .table .issRule ≡ systemRegister .number)
+      by : T (eqb (s .table .issRule) (plain .number)) ⊎ T (namesRegister (s .table .issRule)) → (s .table .issRule ≡ plain .number) ⊎ T (namesRegister (s .table .issRule))
       by (inl t) = inl (eqb→eq _ _ t)
-      by (inr t) = inr (eqb→eq _ _ t)
+      by (inr t) = inr t
 
 -- 02: "Named are the class, bit 24 in data aborts, software step and SError, the status, FnV (for the text of FnP) and WnRV."
 infix 75 _at_

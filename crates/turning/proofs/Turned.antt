@@ -2,7 +2,7 @@
 -- excepted ones. What is asked of the value shares no bit with the leaf, so that it has the same answers; the leaves tile the value, so that no other
 -- leaf shares a bit with it; and ISS alone covers it.
 use mathlib.Core.Path.{_≡_, refl, sym, ap, ap₂, _∙_, subst}
-use mathlib.Core.Bool.{Bool, _&&_}
+use mathlib.Core.Bool.{Bool, false, _&&_}
 use mathlib.Core.List.{List, [], _∷_, _++_, map, List·Memᴰ, List·Memᴰ·head, List·Memᴰ·tail, List·Memᴰ·append-cases, List·Memᴰ·eq-of-singleton, Memᴰ·append-left, Memᴰ·append-right}
 use mathlib.Core.Logic.{_⊎_, inl, inr}
 use Prim.Native.Nat.{ℕ, _+_, _≤_}
@@ -11,7 +11,7 @@ use lib.Dec.{T, eqb, leb, eqb→eq, leb→le}
 use lib.ListN.{take}
 use Rattle.promise.specs.Member.{member}
 use Rattle.promise.proofs.Tests.{both-left, both-right, every, every-mem}
-use Rattle.texts.specs.Rules.{plain, systemRegister, rules}
+use Rattle.texts.specs.Rules.{plain, rules}
 use Rattle.texts.specs.Pool.{onList, ruleAt, describes, textCode}
 use Rattle.records.specs.Bits.{fieldOf}
 use Rattle.records.specs.Kinds.{markOf}
@@ -28,7 +28,7 @@ use Rattle.reading.proofs.HasBits.{bits-is, bits-of, inner}
 use Rattle.reading.proofs.Applies.{atIss, fitted-lines, applying-is, applying-of}
 use Rattle.reading.proofs.Served.{ClassOf, unserved, servedBy, class-of}
 use Rattle.reading.proofs.Outcome.{rowsOf, rows-sound, Rows, reading-rows}
-use Rattle.turning.specs.Turning.{bitsOf, askedBy, DifferInside, leafRows, Unnamed, SameRow, InIss, Stands, equal, field, iss, StandAll, none, more, OneTurned}
+use Rattle.turning.specs.Turning.{bitsOf, askedBy, DifferInside, leafRows, Unnamed, SameRow, InIss, namesRegister, Stands, equal, field, iss, StandAll, none, more, OneTurned}
 use Rattle.turning.proofs.Fields.{Apart, apart-same}
 use Rattle.turning.proofs.Kept.{asked, keep-same}
 use Rattle.turning.proofs.Named.{Elsewhere, someRow, some-row, leaf-elsewhere, iss-text}
@@ -118,6 +118,12 @@ reading-list v l a s k =
     let r : Rows v l = reading-rows v l a in
     r .list ∙ ap (λ (z : Served). map (recordOf v) (topRows (z .table .issRule) ++ keep (atIss v) (z .table .lines))) (one-layout v (r .layout) s (r .classed) k)
 
+-- ISS always has fields of its own: no reading's leaf is ISS itself.
+pub divided : {v : ℕ} {l : List Record} (a : Reading v l) → a .rows ≡ [] → ⊥
+divided {v} a e =
+    subst (λ (rows : List Row). T (someRow rows)) (sym (rows-are v (a .served) (a .rows) (a .classed) (a .applying)) ∙ e)
+    (some-row (a .served) (a .classed .layout) (atIss v))
+
 -- One field turned.
 
 module _ {v w : ℕ} {row : Row} (u : Unnamed v row) (d : DifferInside (bitsOf row) v w) where
@@ -182,9 +188,9 @@ module _ {v w : ℕ} {row : Row} (u : Unnamed v row) (d : DifferInside (bitsOf r
       rule : ℕ
       rule = s .table .issRule
 
-      text : (rule ≡ plain .number) ⊎ (rule ≡ systemRegister .number) → (rule ≡ systemRegister .number → ⊥) → recordOf v (issUnder rule) .text ≡ recordOf w (issUnder rule) .text
+      text : (rule ≡ plain .number) ⊎ T (namesRegister rule) → namesRegister rule ≡ false → recordOf v (issUnder rule) .text ≡ recordOf w (issUnder rule) .text
       text (inl e) n = no-text v w (issUnder rule) e
-      text (inr e) n = absurd (n e)
+      text (inr t) n = absurd (subst T n t)
 
       by : List·Memᴰ row (take 4 (topRows rule)) ⊎ List·Memᴰ row kept → Stands row (issUnder rule) (recordOf v (issUnder rule)) (recordOf w (issUnder rule))
       by (inl m) =

@@ -4,7 +4,7 @@ use Prim.Native.Nat.{ℕ}
 use mathlib.Core.List.{List, [], _∷_, map, List·Memᴰ}
 use mathlib.Core.Path.{_≡_}
 use Rattle.records.specs.declared.Record.{Record}
-use Rattle.esr.specs.Decode.{classOf}
+use Rattle.reading.specs.Given.{ClassIn}
 use Rattle.reading.specs.Reading.{Reading}
 use Rattle.turning.specs.Turning.{Field, bitsOf, DifferInside, leafRows, namedIn}
 
@@ -51,4 +51,4 @@ pub record Covered (f : Field) (classes : List ℕ) (es : List Example) : Type 0
   pub example : Example
   pub among : List·Memᴰ example es
   pub field : example .field ≡ f
-  pub class : List·Memᴰ (classOf (example .first)) classes
+  pub class : ClassIn (example .first) classes

@@ -1,6 +1,6 @@
 -- What #114 speaks of, "One field turned, one record changed", said of the bits of two values and of the lines of 01's tables, as a reading is.
 use Prim.Native.Nat.{ℕ, _+_, _≤_}
-use mathlib.Core.Bool.{Bool, true, cond, _&&_}
+use mathlib.Core.Bool.{Bool, false, cond, _&&_}
 use mathlib.Core.List.{List, [], _∷_, _++_, map, List·Memᴰ}
 use mathlib.Core.Path.{_≡_}
 use lib.Dec.{eqb}
@@ -81,12 +81,16 @@ pub record SameRow (x y : Record) : Type 0 where
 abbrev pub InIss : Row → Type 0
 InIss r = r .start + r .width ≤ 25
 
+-- "its text from #108": ISS has the text of the system register that it names under this rule
+abbrev pub namesRegister : ℕ → Bool
+namesRegister rule = eqb rule (systemRegister .number)
+
 -- "every record is equal except that field's and, if it lies in ISS, the ISS record's value and its text from #108": x and y are the records of a row
 -- before and after
 pub data Stands (turned row : Row) (x y : Record) : Type 0 where
   equal : x ≡ y → Stands turned row x y
   field : row ≡ turned → SameRow x y → Stands turned row x y
-  iss : {rule : ℕ} → row ≡ issUnder rule → InIss turned → SameRow x y → ((rule ≡ systemRegister .number → ⊥) → x .text ≡ y .text) → Stands turned row x y
+  iss : {rule : ℕ} → row ≡ issUnder rule → InIss turned → SameRow x y → (namesRegister rule ≡ false → x .text ≡ y .text) → Stands turned row x y
 
 -- every record, row by row
 pub data StandAll (turned : Row) : List Row → List Record → List Record → Type 0 where
