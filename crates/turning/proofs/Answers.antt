@@ -1,12 +1,9 @@
 -- #114 of answers: what the decoder's promise allows of accepted values are the records of their readings; and a profile that accepts answers as the decoder does.
-use mathlib.Core.Path.{_≡_, sym, ap, ap₂, _∙_, subst}
+use mathlib.Core.Path.{_≡_, sym, ap, _∙_, subst}
 use mathlib.Core.Bool.{true, false}
-use mathlib.Core.List.{List}
 use Prim.Native.Nat.{ℕ}
 use Rattle.refusals.specs.Refusals.{noRefusal}
-use Rattle.records.specs.Sets.{listOf, recordsOf}
-use Rattle.records.specs.declared.Record.{Record}
-use Rattle.records.specs.declared.Records.{Records}
+use Rattle.records.specs.Sets.{listOf}
 use Rattle.records.specs.declared.Row.{Row}
 use Rattle.records.proofs.Laws.{list-of}
 use Rattle.esr.specs.Promises.{Decoded}

@@ -1,8 +1,8 @@
 -- Each named field can be turned so that the rows change: one table of examples, which antt computes, has one for each field that a table's conditions ask,
 -- and one for the class.
-use mathlib.Core.Path.{_≡_, refl, sym, ap, _∙_, subst}
+use mathlib.Core.Path.{_≡_, refl, sym, _∙_, subst}
 use mathlib.Core.Bool.{Bool, true, false, cond, not, _&&_}
-use mathlib.Core.List.{List, [], _∷_, _++_, map, List·Memᴰ, List·Memᴰ·head, List·Memᴰ·tail}
+use mathlib.Core.List.{List, [], _∷_, map, List·Memᴰ, List·Memᴰ·head, List·Memᴰ·tail, Memᴰ·of-map}
 use mathlib.Core.Logic.{_⊎_, inl, inr}
 use Prim.Native.Nat.{ℕ, _/_, _%_, _^_}
 use lib.Dec.{T, eqb, eqb→eq, eqb-refl, T-not}
@@ -13,25 +13,23 @@ use Rattle.texts.specs.Pool.{describes, onList as onTexts, ruleAt}
 use Rattle.refusals.specs.Refusals.{refusalNumber, noRefusal, passed}
 use Rattle.records.specs.Bits.{fieldOf}
 use Rattle.records.specs.Kinds.{kindOf}
-use Rattle.records.specs.Rows.{meets, refusalOf, recordOf}
-use Rattle.records.specs.Sets.{recordsOf}
-use Rattle.records.specs.declared.Record.{Record}
+use Rattle.records.specs.Rows.{meets, refusalOf}
 use Rattle.records.specs.declared.Row.{Row}
 use Rattle.tables.specs.Applying.{passes, keep, rowsFor, checksFor}
 use Rattle.tables.specs.Tables.{class, topRows, Served, layouts, res0, wf, mcr, mcrr, ldc, sve, ld64b, bti, pauth, hvc, brk, fp, breakpoint, softwareStep, watchpoint, instructionAbort, dataAbort, serror, msr}
-use Rattle.esr.specs.Decode.{firstFailure, refused, accepted, failureFor, recordsFor, tableAnswer, classOf, classAnswer, answerOf}
-use Rattle.reading.specs.Reading.{Classed, Reading}
+use Rattle.esr.specs.Decode.{firstFailure, refused, accepted, failureFor, tableAnswer, classOf, classAnswer, answerOf}
+use Rattle.reading.specs.Reading.{Classed}
 use Rattle.reading.specs.ReadAs.{ReadAs}
 use Rattle.reading.specs.Refusing.{refusing}
 use Rattle.reading.proofs.HasBits.{bits-is, bits-of}
 use Rattle.reading.proofs.Applies.{atIss}
 use Rattle.reading.proofs.Outcome.{not-zero}
 use Rattle.reading.proofs.Reading.{accepted-read, accepted-or-refused}
-use Rattle.turning.specs.Turning.{Field, bitsOf, leafRows, namedIn, same}
-use Rattle.turning.specs.Examples.{Example, examples, Shown, Covered}
+use Rattle.turning.specs.Turning.{Field, bitsOf, same, DifferInside, leafRows, namedIn, Unnamed}
+use Rattle.turning.specs.Examples.{Example, examples, Shown, Covered, others, Standing}
 use Rattle.turning.proofs.Fields.{differ-by}
-use Rattle.turning.proofs.Named.{either, onList, on-list, same-field}
-use Rattle.turning.proofs.Turned.{rows-are}
+use Rattle.turning.proofs.Named.{either, onList, on-list, mem-on, same-field}
+use Rattle.turning.proofs.Turned.{rows-are, others-stand}
 
 -- Rows compared by their bits, rules and kinds.
 
@@ -88,6 +86,14 @@ all-shown = tt
 
 -- What the test shows of each example.
 
+differs : (e : Example) → T (staysOutside e) → DifferInside (e .field) (e .first) (e .second)
+differs e t =
+    let s : ℕ = 2 ^ (e .field .start) in
+    let w : ℕ = 2 ^ (e .field .width) in
+    let above : Bool = eqb (e .first / s / w) (e .second / s / w) in
+    differ-by (e .field) (e .first) (e .second) (eqb→eq (e .first / s / w) (e .second / s / w) (both-left above _ t))
+    (eqb→eq (e .first % s) (e .second % s) (both-right above _ t))
+
 -- the leaves do not depend on the rule of ISS
 leaf-on : (f : Field) (rule : ℕ) (rows : List Row) → T (onList f (map bitsOf (leafRows 0 rows))) → List·Memᴰ f (map bitsOf (leafRows rule rows))
 unfolding topRows
@@ -129,7 +135,7 @@ module _ (e : Example) (m : List·Memᴰ e examples) where
   pub shown : Shown e
   shown =
       record {
-        inside = differ-by (e .field) (e .first) (e .second) (eqb→eq _ _ (both-left (eqb above above') _ outside)) (eqb→eq _ _ (both-right (eqb above above') _ outside));
+        inside = differs e (both-left (staysOutside e) _ here);
         before = a .list;
         after = b .list;
         first = a .reading;
@@ -139,15 +145,6 @@ module _ (e : Example) (m : List·Memᴰ e examples) where
         otherRows = λ q. T-not (allAlike kept kept') (both-right isLeaf _ after-named) (subst (λ (rs : List Row). T (allAlike kept rs)) (sym rows ∙ q ∙ rows') (alike-self kept));
       }
     where
-      above : ℕ
-      above = e .first / 2 ^ (e .field .start) / 2 ^ (e .field .width)
-
-      above' : ℕ
-      above' = e .second / 2 ^ (e .field .start) / 2 ^ (e .field .width)
-
-      outside : T (staysOutside e)
-      outside = both-left (staysOutside e) _ here
-
       a : ReadAs (e .first) (answerOf (e .first))
       a = is-read (e .first) (both-left (isAccepted (e .first)) _ both)
 
@@ -218,3 +215,80 @@ every-named s m f n =
     by : T (same f (bitsOf class)) ⊎ T (amongExamples f (s .classes) examples) → (f ≡ bitsOf class) ⊎ Covered f (s .classes) examples
     by (inl t) = inl (same-field f (bitsOf class) t)
     by (inr t) = inr (covered f (s .classes) examples t)
+
+-- The fields that are not named.
+
+abbrev isOther : Example → Served → Bool
+isOther e s = not (onList (e .field) (namedIn (s .table))) && onList (e .field) (map bitsOf (leafRows 0 (keep (atIss (e .first)) (s .table .lines))))
+
+abbrev isOtherIf : Example → ℕ → Served → Bool
+isOtherIf e i s = cond (serves (e .first) s) (isOther e s) true
+
+abbrev stays : ℕ → Example → Bool
+stays i e = staysOutside e && (isAccepted (e .first) && (isAccepted (e .second) && every (isOtherIf e) 0 layouts))
+
+all-stay : T (every stays 0 others)
+unfolding others layouts topRows res0 wf mcr mcrr ldc sve ld64b bti pauth hvc brk fp breakpoint softwareStep watchpoint instructionAbort dataAbort serror msr answerOf classAnswer tableAnswer failureFor firstFailure refused accepted rowsFor checksFor passes meets refusalOf kindOf fieldOf describes onTexts ruleAt rules
+all-stay = tt
+
+module _ (e : Example) (m : List·Memᴰ e others) where
+  told : T (staysOutside e && (isAccepted (e .first) && (isAccepted (e .second) && every (isOtherIf e) 0 layouts)))
+  told = every-mem stays e 0 others all-stay m .1
+
+  accepts : T (isAccepted (e .first) && (isAccepted (e .second) && every (isOtherIf e) 0 layouts))
+  accepts = both-right (staysOutside e) _ told
+
+  rest : T (isAccepted (e .second) && every (isOtherIf e) 0 layouts)
+  rest = both-right (isAccepted (e .first)) _ accepts
+
+  -- Every other record stands.
+  pub standing : Standing e
+  standing =
+      record {
+        row = leaf .0;
+        field = leaf .2;
+        unnamed = unnamed;
+        inside = inside;
+        before = a .list;
+        after = b .list;
+        first = a .reading;
+        second = b .reading;
+        stand = others-stand unnamed inside (a .reading) (b .reading);
+      }
+    where
+      a : ReadAs (e .first) (answerOf (e .first))
+      a = is-read (e .first) (both-left (isAccepted (e .first)) _ accepts)
+
+      b : ReadAs (e .second) (answerOf (e .second))
+      b = is-read (e .second) (both-left (isAccepted (e .second)) _ rest)
+
+      s : Served
+      s = a .reading .served
+
+      other : T (isOther e s)
+      other = if-served (serves (e .first) s) _ (is-served (a .reading .classed)) (every-mem (isOtherIf e) s 0 layouts (both-right (isAccepted (e .second)) _ rest) (a .reading .classed .layout) .1)
+
+      kept : List Row
+      kept = keep (atIss (e .first)) (s .table .lines)
+
+      isNamed : Bool
+      isNamed = onList (e .field) (namedIn (s .table))
+
+      leaf : (row : Row) × List·Memᴰ row (leafRows (s .table .issRule) kept) × (bitsOf row ≡ e .field)
+      leaf = Memᴰ·of-map bitsOf (leafRows (s .table .issRule) kept) (leaf-on (e .field) (s .table .issRule) kept (both-right (not isNamed) _ other))
+
+      unnamed : Unnamed (e .first) (leaf .0)
+      unnamed =
+          record {
+            served = s;
+            classed = a .reading .classed;
+            rows = a .reading .rows;
+            applying = a .reading .applying;
+            leaf = subst (λ (rs : List Row). List·Memᴰ (leaf .0) (leafRows (s .table .issRule) rs))
+                (sym (rows-are (e .first) s (a .reading .rows) (a .reading .classed) (a .reading .applying))) (leaf .1);
+            unnamed = λ n. T-not isNamed (both-left (not isNamed) _ other)
+                (subst (λ (f : Field). T (onList f (namedIn (s .table)))) (leaf .2) (mem-on (bitsOf (leaf .0)) (namedIn (s .table)) n));
+          }
+
+      inside : DifferInside (bitsOf (leaf .0)) (e .first) (e .second)
+      inside = subst (λ (f : Field). DifferInside f (e .first) (e .second)) (sym (leaf .2)) (differs e (both-left (staysOutside e) _ told))

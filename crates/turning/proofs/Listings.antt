@@ -1,13 +1,13 @@
 -- #114 of listings: a listing is one part for each record, in order, and equal records at one index have equal parts. By induction over the records.
 use mathlib.Core.Path.{_≡_, refl, ap}
 use mathlib.Core.List.{List, [], _∷_, _++_}
-use mathlib.Core.Logic.{_⊎_, inl, inr}
+use mathlib.Core.Logic.{inl, inr}
 use Prim.Native.Nat.{ℕ, suc}
 use Rattle.buffer.specs.InOrder.{eachFrom}
 use Rattle.records.specs.declared.Record.{Record}
 use Rattle.records.specs.declared.Row.{Row}
 use Rattle.tables.specs.Tables.{topRows}
-use Rattle.display.specs.Listings.{recordLines, listing}
+use Rattle.display.specs.Listings.{recordLines}
 use Rattle.turning.specs.Turning.{Stands, equal, field, iss, StandAll, none, more, OneTurned}
 use Rattle.turning.specs.Parts.{partsFrom, joined, PartsStand, ListingsStand}
 use Rattle.turning.specs.Parts as parts
@@ -29,7 +29,7 @@ module _ (lookup : ℕ → List ℕ) where
   parts-stand index none = parts.none
   parts-stand index (more s rest) = part-stands index s (parts-stand (suc index) rest)
 
-  -- The listings of both, under any lookup of texts.
+  -- The listings of both readings, or of both answers, under any lookup of texts.
   pub listings-stand : {turned : Row} {v w : ℕ} {l k : List Record} (o : OneTurned turned v w l k)
       → ListingsStand turned (topRows (o .served .table .issRule) ++ o .rows) lookup l k
   listings-stand {l} {k} o = record { first = from-parts 0 l; second = from-parts 0 k; parts = parts-stand 0 (o .stand) }

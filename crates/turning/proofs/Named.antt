@@ -1,12 +1,12 @@
 -- The named fields are those of 02's list, class by class; and a leaf that is not named shares no bit with the class or with what is asked of the value.
 -- Each is one test of all tables, under every outcome of their conditions, which antt computes.
-use mathlib.Core.Path.{_≡_, refl, sym, ap, ap₂, _∙_, subst}
-use mathlib.Core.Bool.{Bool, true, false, cond, not, _&&_}
-use mathlib.Core.List.{List, [], _∷_, _++_, map, List·Memᴰ, List·Memᴰ·head, List·Memᴰ·tail}
+use mathlib.Core.Path.{_≡_, refl, sym, ap₂, subst}
+use mathlib.Core.Bool.{Bool, true, false, cond, _&&_}
+use mathlib.Core.List.{List, [], _∷_, map, List·Memᴰ, List·Memᴰ·head, List·Memᴰ·tail}
 use mathlib.Core.Logic.{_⊎_, inl, inr}
 use Prim.Native.Nat.{ℕ, _+_, _≤_}
 use lib.Dec.{T, eqb, leb, eqb→eq, eqb-refl, leb→le}
-use lib.ListN.{length, take, length-map}
+use lib.ListN.{length, length-map}
 use Rattle.promise.proofs.Tests.{both-left, both-right, both-intro, or-left, or-right, every, every-mem}
 use Rattle.texts.specs.Rules.{plain}
 use Rattle.records.specs.declared.Row.{Row}

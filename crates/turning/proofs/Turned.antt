@@ -1,7 +1,7 @@
 -- #114 of readings: values that differ only inside a leaf that is not named have the same layout and the same rows, and every record is equal but the
 -- excepted ones. What is asked of the value shares no bit with the leaf, so that it has the same answers; the leaves tile the value, so that no other
 -- leaf shares a bit with it; and ISS alone covers it.
-use mathlib.Core.Path.{_≡_, refl, sym, ap, ap₂, _∙_, subst}
+use mathlib.Core.Path.{_≡_, refl, sym, ap, _∙_, subst}
 use mathlib.Core.Bool.{Bool, false, _&&_}
 use mathlib.Core.List.{List, [], _∷_, _++_, map, List·Memᴰ, List·Memᴰ·head, List·Memᴰ·tail, List·Memᴰ·append-cases, List·Memᴰ·eq-of-singleton, Memᴰ·append-left, Memᴰ·append-right}
 use mathlib.Core.Logic.{_⊎_, inl, inr}
@@ -21,14 +21,14 @@ use Rattle.records.specs.declared.Record.{Record}
 use Rattle.records.specs.declared.Row.{Row}
 use Rattle.tables.specs.Shape.{Test, Line}
 use Rattle.tables.specs.Applying.{passes, keep, rowsFor}
-use Rattle.tables.specs.Tables.{class, issUnder, topRows, Served, layouts}
+use Rattle.tables.specs.Tables.{class, issUnder, topRows, Served}
 use Rattle.tables.proofs.Sound.{tiles, tiled}
 use Rattle.reading.specs.Reading.{Applying, Classed, Reading}
 use Rattle.reading.proofs.HasBits.{bits-is, bits-of, inner}
 use Rattle.reading.proofs.Applies.{atIss, fitted-lines, applying-is, applying-of}
 use Rattle.reading.proofs.Served.{ClassOf, unserved, servedBy, class-of}
-use Rattle.reading.proofs.Outcome.{rowsOf, rows-sound, Rows, reading-rows}
-use Rattle.turning.specs.Turning.{bitsOf, askedBy, DifferInside, leafRows, Unnamed, SameRow, InIss, namesRegister, Stands, equal, field, iss, StandAll, none, more, OneTurned}
+use Rattle.reading.proofs.Outcome.{rows-sound, Rows, reading-rows}
+use Rattle.turning.specs.Turning.{bitsOf, askedBy, DifferInside, leafRows, Unnamed, SameRow, namesRegister, Stands, equal, field, iss, StandAll, none, more, OneTurned}
 use Rattle.turning.proofs.Fields.{Apart, apart-same}
 use Rattle.turning.proofs.Kept.{asked, keep-same}
 use Rattle.turning.proofs.Named.{Elsewhere, someRow, some-row, leaf-elsewhere, iss-text}

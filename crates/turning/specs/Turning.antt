@@ -60,7 +60,7 @@ testsOf (l ∷ ls) = testsIn (l .conditions) ++ testsOf ls
 abbrev pub namedIn : Table → List Field
 namedIn t = bitsOf class ∷ map askedBy (testsOf (t .lines))
 
--- a leaf of a value, by the rows that apply to it, whose field is not named
+-- a leaf of a value, by the rows that apply to it, whose field is not named. IMPDEF of an SError is one: it has the bits of the status, and is not the status
 pub record Unnamed (v : ℕ) (row : Row) : Type 0 where
   pub served : Served
   pub classed : Classed v served
