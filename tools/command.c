@@ -12,7 +12,7 @@ LINUX_START;
 
 /* A program is proved, and asks for what is defined below alone. It is null where it was not linked. */
 typedef int program(void);
-__attribute__((weak)) program esr_listing, esr_records, esr_number, esr_entry, esr_walk, esr_survey, esr_survey_sum, esr_make, esr_sheet;
+__attribute__((weak)) program esr_listing, esr_records, esr_number, esr_entry, esr_walk, esr_survey, esr_survey_sum, esr_make, esr_sheet, esr_diff;
 
 long read(int file, void *bytes, size_t length);
 long write(int file, const void *bytes, size_t length);
@@ -424,6 +424,20 @@ static void make(char **given) {
     run(esr_make, numbers);
 }
 
+/* The words are these, in their order and each once, or there is none, and lines of standard input are they. */
+static void run_on_words(program *asked, char **given, size_t count, const char *usage) {
+    static const char *const options[] = {NULL};
+    size_t found = 0;
+    given = after_option(given, options);
+    while (given[found] != NULL) {
+        found++;
+    }
+    if (found != 0 && found != count) {
+        fail("other words are asked for: ", usage, "");
+    }
+    run(asked, given);
+}
+
 /* The standard sheet, in bytes or in lines; or the sheet that lines make. A sheet has no lines, and what is refused is told apart from it. */
 static void write_sheet(char **given) {
     static const char *const options[] = {"--text", "--from", NULL};
@@ -466,6 +480,9 @@ static void obey(char **given) {
     } else if (is(first, "make")) {
         expect_no_profile(first);
         make(given + 1);
+    } else if (is(first, "diff")) {
+        expect_no_profile(first);
+        run_on_words(esr_diff, given + 1, 2, "esr diff VALUE VALUE");
     } else if (is(first, "sheet")) {
         expect_no_profile(first);
         write_sheet(given + 1);

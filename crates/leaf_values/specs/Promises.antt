@@ -3,7 +3,7 @@ use Prim.Native.Nat.{ℕ}
 use mathlib.Core.Bool.{Bool}
 use mathlib.Core.Path.{_≡_}
 use lib.ListN.{length}
-use Rattle.leaf_values.specs.Leaves.{leavesOf, sameLeaves}
+use Rattle.leaf_values.specs.Leaves.{leavesOf, sameLeaves, sameRows}
 use Rattle.leaf_values.specs.Values.{anyMay, leafRow, mayBe, roomOf}
 use Rattle.records.specs.declared.Row.{Row}
 
@@ -13,6 +13,10 @@ LeafCount (number, iss) r = r ≡ length (leavesOf number iss)
 
 abbrev pub LeafRow : ℕ × ℕ × ℕ → Row → Type 0
 LeafRow (number, iss, index) r = r ≡ leafRow number iss index
+
+-- of two layouts, each with an ISS
+abbrev pub SameSets : ℕ × ℕ × ℕ × ℕ → Bool → Type 0
+SameSets (number, iss, second, other) r = r ≡ sameRows (leavesOf number iss) (leavesOf second other)
 
 abbrev pub SameLeaves : ℕ × ℕ × ℕ → Bool → Type 0
 SameLeaves (number, iss, other) r = r ≡ sameLeaves number iss other

@@ -1,7 +1,7 @@
 // The leaves of ISS by the number of a layout, and the values that each may have: those that its row allows and that leave the rows as they are.
 ghost use Prim.Native.Nat.{_+_, _<_, _≤_};
 ghost use Rattle.leaf_values.specs.Leaves.{sameRow};
-ghost use Rattle.leaf_values.specs.Promises.{AnyMay, LeafRow, LeafCount, MayBe, RoomOf, SameLeaves};
+ghost use Rattle.leaf_values.specs.Promises.{AnyMay, LeafRow, LeafCount, MayBe, RoomOf, SameLeaves, SameSets};
 ghost use Rattle.leaf_values.specs.Values.{putAt};
 ghost use mathlib.Core.Path.{_≡_};
 use layouts::layout_of;
@@ -80,21 +80,28 @@ fn same_row(a: Row, b: Row) -> bool
     a.kind == b.kind
 }
 
-pub fn same_leaves(number: u8, iss: u64, other: u64) -> bool
-    ensures { λ r. ⌜ SameLeaves (number, iss, other) r ⌝ }
+// Of two layouts, each with an ISS (#114).
+pub fn same_sets(number: u8, iss: u64, second: u8, other: u64) -> bool
+    ensures { λ r. ⌜ SameSets (number, iss, second, other) r ⌝ }
 {
     let count = leaf_count(number, iss);
-    if leaf_count(number, other) != count {
+    if leaf_count(second, other) != count {
         return false;
     }
     let mut i: usize = 0;
     while i < count {
-        if !same_row(leaf_row(number, iss, i), leaf_row(number, other, i)) {
+        if !same_row(leaf_row(number, iss, i), leaf_row(second, other, i)) {
             return false;
         }
         i += 1;
     }
     true
+}
+
+pub fn same_leaves(number: u8, iss: u64, other: u64) -> bool
+    ensures { λ r. ⌜ SameLeaves (number, iss, other) r ⌝ }
+{
+    same_sets(number, iss, number, other)
 }
 
 pub fn room_of(width: u8) -> u64

@@ -25,10 +25,10 @@ use Rattle.reading.proofs.HasBits.{bits-is, bits-of}
 use Rattle.reading.proofs.Applies.{atIss}
 use Rattle.reading.proofs.Outcome.{not-zero}
 use Rattle.reading.proofs.Reading.{accepted-read, accepted-or-refused}
-use Rattle.turning.specs.Turning.{Field, bitsOf, same, DifferInside, leafRows, namedIn, Unnamed}
+use Rattle.turning.specs.Turning.{Field, bitsOf, same, DifferInside, leafRows, namedIn, onList, Unnamed}
 use Rattle.turning.specs.Examples.{Example, examples, Shown, Covered, others, Standing}
 use Rattle.turning.proofs.Fields.{differ-by}
-use Rattle.turning.proofs.Named.{either, onList, on-list, mem-on, same-field}
+use Rattle.turning.proofs.Named.{either, on-list, mem-on, same-field}
 use Rattle.turning.proofs.Turned.{rows-are, others-stand}
 
 -- Rows compared by their bits, rules and kinds.

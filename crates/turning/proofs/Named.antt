@@ -15,14 +15,9 @@ use Rattle.tables.specs.Applying.{keep}
 use Rattle.tables.specs.Tables.{class, topRows, Served, layouts, res0, wf, mcr, mcrr, ldc, sve, ld64b, bti, pauth, hvc, brk, fp, breakpoint, softwareStep, watchpoint, instructionAbort, dataAbort, serror, msr}
 use Rattle.tables.proofs.Laws.{given, knowsLines, keep-is}
 use Rattle.tables.proofs.Sound.{atAll, all-at, named}
-use Rattle.turning.specs.Turning.{Field, bitsOf, askedBy, same, once, leafRows, namedIn, namesRegister}
+use Rattle.turning.specs.Turning.{Field, bitsOf, askedBy, same, onList, once, leafRows, namedIn, namesRegister}
 use Rattle.turning.proofs.Fields.{Apart}
 use Rattle.turning.proofs.Kept.{asked, asked-is}
-
--- a field is on a list
-abbrev pub onList : Field → List Field → Bool
-onList f [] = false
-onList f (g ∷ gs) = cond (same f g) true (onList f gs)
 
 -- two fields share no bit
 abbrev areApart : Field → Field → Bool

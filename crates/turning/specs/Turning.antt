@@ -1,6 +1,6 @@
 -- What #114 speaks of, "One field turned, one record changed", said of the bits of two values and of the lines of 01's tables, as a reading is.
 use Prim.Native.Nat.{ℕ, _+_, _≤_}
-use mathlib.Core.Bool.{Bool, false, cond, _&&_}
+use mathlib.Core.Bool.{Bool, true, false, cond, _&&_}
 use mathlib.Core.List.{List, [], _∷_, _++_, map, List·Memᴰ}
 use mathlib.Core.Path.{_≡_}
 use lib.Dec.{eqb}
@@ -23,9 +23,13 @@ bitsOf r = record { start = r .start; width = r .width }
 abbrev pub askedBy : Test → Field
 askedBy t = record { start = t .start; width = t .width }
 
--- fields compared, and a list of fields with each once
+-- fields compared, whether a field is on a list, and a list of fields with each once
 abbrev pub same : Field → Field → Bool
 same f g = eqb (f .start) (g .start) && eqb (f .width) (g .width)
+
+abbrev pub onList : Field → List Field → Bool
+onList f [] = false
+onList f (g ∷ gs) = cond (same f g) true (onList f gs)
 
 abbrev pub without : Field → List Field → List Field
 without f [] = []
