@@ -12,7 +12,7 @@ LINUX_START;
 
 /* A program is proved, and asks for what is defined below alone. It is null where it was not linked. */
 typedef int program(void);
-__attribute__((weak)) program esr_listing, esr_records, esr_number, esr_entry, esr_walk, esr_survey, esr_survey_sum, esr_make, esr_sheet, esr_diff;
+__attribute__((weak)) program esr_listing, esr_records, esr_number, esr_entry, esr_walk, esr_survey, esr_survey_sum, esr_make, esr_sheet, esr_diff, esr_turn;
 
 long read(int file, void *bytes, size_t length);
 long write(int file, const void *bytes, size_t length);
@@ -438,6 +438,18 @@ static void run_on_words(program *asked, char **given, size_t count, const char 
     run(asked, given);
 }
 
+/* A value, a field and a number: the field is the program's own option, and the others are its lines. */
+static void turn(char **given) {
+    static char *lines[3];
+    if (given[0] == NULL || given[1] == NULL || given[2] == NULL || given[3] != NULL) {
+        fail("other words are asked for: ", "esr turn VALUE FIELD NUMBER", "");
+    }
+    lines[0] = given[0];
+    lines[1] = given[2];
+    option = given[1];
+    run(esr_turn, lines);
+}
+
 /* The standard sheet, in bytes or in lines; or the sheet that lines make. A sheet has no lines, and what is refused is told apart from it. */
 static void write_sheet(char **given) {
     static const char *const options[] = {"--text", "--from", NULL};
@@ -483,6 +495,9 @@ static void obey(char **given) {
     } else if (is(first, "diff")) {
         expect_no_profile(first);
         run_on_words(esr_diff, given + 1, 2, "esr diff VALUE VALUE");
+    } else if (is(first, "turn")) {
+        expect_no_profile(first);
+        turn(given + 1);
     } else if (is(first, "sheet")) {
         expect_no_profile(first);
         write_sheet(given + 1);

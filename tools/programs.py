@@ -23,7 +23,7 @@ JOBS = ROOM / "jobs"  # a folder for each crate that is being proved, in which r
 SHARED = ("rlib", "stamp", "obj", "bin")  # what rt leaves for the crates above
 LISTING = "esr_listing"
 # The command's words, each with the program that it asks for; without one of them it is the listing.
-COMMANDS = {"records": "esr_records", "number": "esr_number", "entry": "esr_entry", "walk": "esr_walk", "survey": "esr_survey", "make": "esr_make", "diff": "esr_diff", "sheet": "esr_sheet"}
+COMMANDS = {"records": "esr_records", "number": "esr_number", "entry": "esr_entry", "walk": "esr_walk", "survey": "esr_survey", "make": "esr_make", "diff": "esr_diff", "turn": "esr_turn", "sheet": "esr_sheet"}
 PROFILE = ("--strict", "--nested")
 SHEET = "--sheet"
 # A survey of surveys has a program of its own.
