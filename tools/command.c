@@ -5,7 +5,7 @@
 #include <stdint.h>
 
 #include "linux.h"
-/* HELP and VERSION, which tools/retarget.py writes. */
+/* HELP and VERSION, the lines of each, which tools/retarget.py writes. */
 #include "told.h"
 
 LINUX_START;
@@ -468,16 +468,24 @@ static int is_value(const char *word) {
     return word[0] == 0 || word[0] == '+' || ('0' <= word[0] && word[0] <= '9');
 }
 
+static void say_lines(const char *const *lines, size_t count) {
+    for (size_t i = 0; i < count; i++) {
+        say(lines[i]);
+    }
+}
+
 static void obey(char **given) {
+    static const char *const help[] = {HELP};
+    static const char *const version[] = {VERSION};
     given = after_sheet(given);
     const char *first = *given != NULL ? *given : "";
     if (!is_value(first) && !is(first, "--remarks")) {
         expect_no_sheet(first);
     }
     if (is(first, "help") || is(first, "--help") || is(first, "-h")) {
-        say(HELP);
+        say_lines(help, sizeof help / sizeof *help);
     } else if (is(first, "version") || is(first, "--version")) {
-        say(VERSION);
+        say_lines(version, sizeof version / sizeof *version);
     } else if (is(first, "records")) {
         run_on_values(esr_records, given + 1);
     } else if (is(first, "number")) {

@@ -389,14 +389,14 @@ def archives():
 # ---- the command
 
 
-def literal(text):
-    """A text as C spells it."""
-    return "\n".join('"' + line.replace("\\", "\\\\").replace('"', '\\"') + '\\n"' for line in text.splitlines())
+def literals(text):
+    """The lines of a text as C spells them, one string for each: C99 asks of a compiler to take strings of 4,095 bytes and no longer ones."""
+    return ", \\\n".join('"' + line.replace("\\", "\\\\").replace('"', '\\"') + '\\n"' for line in text.splitlines())
 
 
 def told(names):
     """What the command tells of itself: the header told.h."""
-    return "".join(f"#define {name} {literal(text)}\n".replace('"\n"', '" \\\n"') for name, text in (("HELP", HELP.read_text()), ("VERSION", version(names))))
+    return "".join(f"#define {name} {literals(text)}\n" for name, text in (("HELP", HELP.read_text()), ("VERSION", version(names))))
 
 
 def object_of(name, machine, tools):
