@@ -1,4 +1,4 @@
-"""The proved code for AArch64 and x86-64: the LLVM module that the toolchain makes of it, compiled a second time.
+"""The proved code for AArch64, x86-64 and WebAssembly: the LLVM module that the toolchain makes of it, compiled a second time.
 
 The toolchain compiles for x86-64 alone. Its back end makes one LLVM module of the proved code and hands it to its clang, which knows AArch64 too. `keeping`
 has rt run a clang that first keeps the module; `retargeted` changes what names the processor in it, and nothing else; `gathered` makes one constant of the
@@ -8,6 +8,10 @@ What is proved is the code before the back end, on either processor alike.
 Both processors are little-endian, with the same integers and alignments and pointers of 64 bits, so that whatever the back end worked out for one holds for the
 other. One thing differs: a struct of more than 16 bytes is returned through a pointer, which x86-64 has as the first argument and AArch64 in a register of its
 own. The module has it as the first argument, and returns it; LLVM takes it for the result's where it is marked `sret`.
+
+WebAssembly is little-endian with the same integers and alignments, but its pointers have 32 bits. The module counts bytes by itself: every address is a pointer and a count of bytes, and a
+pointer in memory has eight bytes of room, of which four are used. `narrow` refuses a module in which a pointer is taken for a number, or an address is counted in anything but bytes. Lengths keep
+their 64 bits.
 
 A module that looks otherwise than expected ends the tool: nothing is compiled of what is not understood."""
 import atexit
@@ -31,8 +35,10 @@ OWN = (Path(__file__), COMMAND, HELP, MEMORY, TOP / "examples" / "linux.h")
 # Of the C functions and of the command. The first number rises with a change of include/esr.h that a caller has to follow, once it is 1.
 RELEASE = "0.1.0"
 MACHINES = ("x86_64", "aarch64")
-# The archive of the C functions for each processor, as `archives` writes it.
+# The archive of the C functions for each processor, and their module for a browser, as `archives` writes them.
 ARCHIVES = {machine: ROOM / machine / "libesr.a" for machine in MACHINES}
+BROWSER = "wasm32"
+WASM = ROOM / BROWSER / "esr.wasm"
 
 # What the module may say of its processor, of its functions and of what it asks for.
 LAYOUT = "e-m:e-p270:32:32-p271:32:32-p272:64:64-i64:64-i128:128-f80:128-n8:16:32:64-S128"
@@ -57,6 +63,11 @@ ARCHIVED = {
 IN_PLACE = ("-mllvm", "-inline-threshold=2500")
 # One of this size is called and not copied: the maker calls it in two places.
 APART = ("layouts::layout_of",)
+# Copies and fills are instructions there, so that nothing is asked for.
+BROWSERS = ("--target=wasm32-unknown-unknown", "-mbulk-memory")
+# The stack lies first, so that one that grows too far traps. The memory has a fixed size: behind the constants, from __heap_base on, it is the caller's.
+MEMORY_SIZE = 2 << 20
+WASM_STACK = 64 << 10
 LINUX = {machine: (f"--target={machine}-unknown-linux-gnu", "-fPIE") for machine in MACHINES}
 # As the toolchain has them for x86-64.
 OPTIONS = ("-O3", "-ffunction-sections", "-fdata-sections", "-mllvm", "-trap-unreachable", "-mllvm", "-no-trap-after-noreturn", "--no-default-config", "-Werror")
@@ -306,6 +317,19 @@ def apart(text):
     return text
 
 
+# What takes a pointer for a number or for another, and addresses: each is counted in bytes.
+PUNS = re.compile(r"\b(?:ptrtoint|ptrtoaddr|inttoptr|addrspacecast)\b")
+ADDRESSES = re.compile(r"\bgetelementptr\b(?! (?:inbounds )?(?:nuw )?i8, ptr )")
+
+
+def narrow(text):
+    """The module, unchanged, that means the same with pointers of 32 bits."""
+    pun = PUNS.search(text)
+    expect(pun is None, f"{pun and pun.group()}, where a pointer has 32 bits")
+    expect(not ADDRESSES.search(text), "an address that is not counted in bytes, where a pointer has 32 bits")
+    return text
+
+
 def named(text, name):
     """The module of a program whose main has a name of its own, so that several can be linked together."""
     lines = text.splitlines()
@@ -361,8 +385,18 @@ def returned():
     return {name: int(sizes[kind]) for kind, name in re.findall(r"^(\w+) (esr_\w+)\(", text, flags=re.M)}
 
 
-def archived(name, sizes, paths):
-    """Proves a library of C functions and writes its archive to the path of each processor, from one module. Sizes has the bytes of the struct that each returns."""
+def browsers(module, text, sizes, path, tools):
+    """Writes the module of the exported functions for a browser: it asks for nothing, and exports its memory, the functions and where the caller's memory begins."""
+    path.parent.mkdir(parents=True, exist_ok=True)
+    code = compiled(module, BROWSER, gathered(apart(retargeted(narrow(text), "wasm32-unknown-unknown", sizes))), BROWSERS + IN_PLACE, tools)
+    names = (f"--export={name}" for name in (*sorted(sizes), "__heap_base"))
+    room = ("--stack-first", "-z", f"stack-size={WASM_STACK}", f"--initial-memory={MEMORY_SIZE}", f"--max-memory={MEMORY_SIZE}")
+    run(tools / "ld.lld", "-flavor", "wasm", "--no-entry", "--strip-all", *room, *names, "-o", path, code)
+
+
+def archived(name, sizes, paths, browser=None):
+    """Proves a library of C functions and writes its archive to the path of each processor, from one module, and that for a browser where a path is given. Sizes has the bytes
+    of the struct that each returns."""
     tools = toolchain()
     run("rt", "staticlib", name, cwd=TOP, env={**os.environ, **keeping(name)})
     module = kept(name)
@@ -373,16 +407,19 @@ def archived(name, sizes, paths):
         path.unlink(missing_ok=True)
         own = retargeted(text, "aarch64-unknown-none-elf", sizes) if machine == "aarch64" else text
         run(tools / "llvm-ar", "rcs", path, compiled(module, machine, gathered(apart(own)), ARCHIVED[machine] + IN_PLACE, tools))
+    if browser:
+        browsers(module, text, sizes, browser, tools)
 
 
 def archives():
-    """Writes the archive of the C functions for x86-64, and for AArch64, bare metal or Linux. Those of the same sources, prover and tool are left as they are."""
+    """Writes the archive of the C functions for x86-64, and for AArch64, bare metal or Linux, and their module for a browser. Those of the same sources, prover and tool are
+    left as they are."""
     made_of = "\n".join((sources(), prover(), hashlib.sha256(Path(__file__).read_bytes() + HEADER.read_bytes()).hexdigest()))
     stamp = ROOM / "archives.of"
-    if stamp.is_file() and stamp.read_text() == made_of and all(path.is_file() for path in ARCHIVES.values()):
+    if stamp.is_file() and stamp.read_text() == made_of and all(path.is_file() for path in (*ARCHIVES.values(), WASM)):
         return
     stamp.unlink(missing_ok=True)
-    archived("capi", returned(), ARCHIVES)
+    archived("capi", returned(), ARCHIVES, WASM)
     stamp.write_text(made_of)
 
 
