@@ -1,15 +1,19 @@
 /* Bytes and the characters that they stand for. */
 
+const encoder = new TextEncoder();
+const unicode = new TextDecoder("utf-8", { fatal: true, ignoreBOM: true });
+const latin = new TextDecoder("latin1");
+
 export function of(text) {
-    return new TextEncoder().encode(text);
+    return encoder.encode(text);
 }
 
 /* A phrase sheet may be in any encoding: what is not UTF-8 is shown as Latin-1. */
 export function text(bytes) {
     try {
-        return new TextDecoder("utf-8", { fatal: true, ignoreBOM: true }).decode(bytes);
+        return unicode.decode(bytes);
     } catch {
-        return new TextDecoder("latin1").decode(bytes);
+        return latin.decode(bytes);
     }
 }
 

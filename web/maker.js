@@ -7,7 +7,7 @@ import * as reading from "./reading.js";
 import * as ruler from "./ruler.js";
 import * as shown from "./shown.js";
 
-const [NO_LAYOUT, WIDE_LEAF] = [21, 22];
+const WIDE_LEAF = 22;
 const LISTED = 6; /* the greatest width of a field whose values are offered */
 let choice, form, fault, changes, made;
 let answer; /* of the value that was made last */
@@ -44,7 +44,10 @@ function fieldRow(field, place) {
     const flag = field.width === 1;
     const input = dom.element("input", flag ? { id, type: "checkbox" } : { id, type: "text", inputmode: "text", autocomplete: "off", spellcheck: "false" });
     if (flag) input.checked = field.value === 1n;
-    else input.value = string(field);
+    else {
+        input.value = string(field);
+        input.size = input.value.length + 1;
+    }
     const values = dom.element("datalist", { id: `${id}-values` });
     if (!flag && field.width <= LISTED) {
         input.setAttribute("list", values.id);
@@ -65,7 +68,7 @@ function fieldRow(field, place) {
     );
 }
 
-const placed = (fields) => fields.map(({ name, start, width }) => `${name} ${start} ${width}`).join();
+const placed = (fields) => fields.map(({ name, long_name, start, width, mark }) => [name, long_name, start, width, mark].join()).join(" ");
 
 /* The form of the fields that there are now; the one that is being typed in keeps its place. */
 function drawForm() {
@@ -99,12 +102,15 @@ function makeOf(ec, fields) {
     return proved.make(ec.value, il, iss2, leaves);
 }
 
-/* Made of the fields as they are typed. Where the class has other fields under these conditions, and the decoder accepts the same bits, made of those. */
+/* Made of the fields as they are typed. Turning one can give a class other fields: the decoder is asked which the same bits have, and of those the value is made. */
 function makeTyped(ec, fields) {
-    const first = makeOf(ec, fields);
-    if (first.refusal !== NO_LAYOUT || fields.some(tooWide)) return first;
-    const other = proved.decode(composed([ec, ...fields]));
-    return other.refusal ? other : makeOf(ec, settable(other));
+    const wide = fields.find(tooWide);
+    if (wide) {
+        const first = makeOf(ec, fields);
+        return first.refusal === WIDE_LEAF ? first : proved.valueString(wide.width, wide.value);
+    }
+    const turned = proved.decode(composed([ec, ...fields]));
+    return turned.refusal ? turned : makeOf(ec, settable(turned));
 }
 
 const tooWide = ({ width, value }) => proved.valueString(width, value).refusal !== 0;
@@ -128,8 +134,7 @@ function edited() {
     const fields = inputs.map(({ field }, place) => ({ ...field, value: numbers[place].value }));
     const { refusal, value, ...why } = makeTyped(ec, fields);
     fields.forEach((field, place) => wrong(place, tooWide(field)));
-    const wide = fields.find(tooWide);
-    if (wide) return told(refusal === WIDE_LEAF ? { refusal, ...why } : proved.valueString(wide.width, wide.value));
+    if (fields.some(tooWide)) return told({ refusal, ...why });
     if (refusal) return told({ refusal, ...why }, ruler.ruler(composed([ec, ...fields]), { refusal, ...why }));
     show(value, true);
 }
@@ -138,9 +143,9 @@ function edited() {
 
 const key = ({ name, start, width }) => `${name} ${start} ${width}`;
 
-function saidOf(record) {
-    const text = reading.text(record.text);
-    return string(record) + (text ? `, ${text}` : "");
+/* A record's value, text and, where it matters, mark. */
+function saidOf(record, marked) {
+    return [string(record), reading.text(record.text), marked ? help.MARKS[record.mark].word : ""].filter((words) => words).join(", ");
 }
 
 function change(record, words) {
@@ -153,8 +158,10 @@ function changed(before, after) {
     const now = new Set(after.map(key));
     const lines = after.flatMap((record) => {
         const was = old.get(key(record));
-        if (!was) return [change(record, `is new: ${saidOf(record)}`)];
-        return was.value === record.value && was.text === record.text ? [] : [change(record, `was ${saidOf(was)}; is ${saidOf(record)}`)];
+        if (!was) return [change(record, `is new: ${saidOf(record, false)}`)];
+        const marked = was.mark !== record.mark;
+        const same = was.value === record.value && was.text === record.text && !marked;
+        return same ? [] : [change(record, `was ${saidOf(was, marked)}; is ${saidOf(record, marked)}`)];
     });
     return [...lines, ...before.filter((record) => !now.has(key(record))).map((record) => change(record, "is gone"))];
 }

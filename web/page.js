@@ -67,7 +67,7 @@ async function takeSheet(file) {
     const refusal = reading.takeSheet(sheet);
     const said = dom.byId("sheet-status");
     if (refusal) return (said.textContent = `${file.name} was not taken: refused ${refusal}: ${help.reason(refusal)}. ${help.meaning(refusal)}`);
-    said.textContent = sheet ? `Texts of ${file.name}.` : "Standard texts.";
+    said.textContent = sheet ? `Texts of ${file.name}.` : "Standard texts; a sheet in another language can be dropped here.";
     dom.byId("sheet-remove").hidden = !sheet;
     refreshAll();
 }
@@ -81,7 +81,7 @@ async function takeTyped(file) {
     }
     const given = new Uint8Array(await file.arrayBuffer());
     values.take(bytes.text(given));
-    if (given.includes(0)) dom.byId("typed-status").textContent = `${file.name} holds bytes and not lines of text: bytes of flash go to Block.`;
+    if (given.includes(0)) dom.byId("typed-note").textContent = `${file.name} holds bytes and not lines of text: bytes of flash go to Block.`;
 }
 
 function takeFile(file, name = open) {

@@ -24,9 +24,12 @@ export function listing(esr) {
     return bytes.text((switches.sheet ? proved.listingWith(esr, switches.sheet, standard) : proved.listing(esr)).bytes);
 }
 
-/* A name or long name. */
+/* A name or long name; each is asked for once. */
+const names = new Map();
+
 export function name(code) {
-    return bytes.text(proved.text(code).bytes);
+    if (!names.has(code)) names.set(code, bytes.text(proved.text(code).bytes));
+    return names.get(code);
 }
 
 /* The text of a record, the sheet's where one is taken. */

@@ -23,25 +23,27 @@ function bar(field, low, line, kind, sign, words) {
     const count = perRow();
     const [from, to] = [Math.max(field.start, low), Math.min(field.start + field.width, low + count)];
     if (from >= to) return null;
-    const made = dom.element("div", { class: `bar ${kind}${to - from < 3 ? " thin" : ""}`, title: `${words}, ${inWords(field)}` });
+    const made = dom.element("div", { class: `bar ${kind}${to - from < 3 ? " thin" : ""}${words.length < 3 ? " short" : ""}`, title: `${words}, ${inWords(field)}` });
     made.append(dom.element("span", { class: "sign" }, sign), dom.element("span", { class: "name" }, words));
     made.style.gridColumn = `${low + count - to + 1} / ${low + count - from + 1}`;
     made.style.gridRow = line;
     return made;
 }
 
+function cell(kind, words, place, line) {
+    const made = dom.element("div", { class: kind }, words);
+    made.style.gridColumn = place + 1;
+    made.style.gridRow = line;
+    return made;
+}
+
+/* The digits, and the number of every fourth bit and of the row's first. */
 function digits(binary, low) {
     const count = perRow();
     return Array.from({ length: count }, (_, place) => {
         const bit = low + count - 1 - place;
-        const one = binary[BITS - 1 - bit] === "1";
-        const number = dom.element("div", { class: `number${bit % 4 ? "" : " fourth"}` }, `${bit}`);
-        const digit = dom.element("div", { class: one ? "digit one" : "digit" }, one ? "1" : "0");
-        [number, digit].forEach((each, line) => {
-            each.style.gridColumn = place + 1;
-            each.style.gridRow = line + 1;
-        });
-        return [number, digit];
+        const digit = binary[BITS - 1 - bit];
+        return [bit % 4 === 0 || place === 0 ? cell("number", `${bit}`, place, 1) : null, cell(digit === "1" ? "digit one" : "digit", digit, place, 2)];
     });
 }
 

@@ -74,6 +74,7 @@ export function refresh() {
 
 /* Shows a text as if it were typed. */
 export function take(text) {
+    dom.byId("typed-note").textContent = "";
     typed.value = text;
     chosen = 0;
     refresh();
@@ -87,5 +88,8 @@ export function start({ countAll, onValue }) {
         note.hidden = held === 0;
         if (held) dom.fill(note, `The first ${LISTED} of ${held.toLocaleString("en")} lines are shown. `, dom.element("button", { type: "button", click: () => countAll(new Blob([typed.value]), "the typed lines") }, "Count them all"));
     };
-    typed.addEventListener("input", refresh);
+    typed.addEventListener("input", () => {
+        dom.byId("typed-note").textContent = "";
+        refresh();
+    });
 }
