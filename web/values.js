@@ -60,6 +60,7 @@ function open(place) {
 
 export function refresh() {
     lines = readAll(typed.value);
+    typed.rows = Math.min(Math.max(lines.length, 2), 8);
     list.hidden = lines.length < 2;
     const place = Math.min(chosen, Math.max(lines.length - 1, 0));
     if (lines.length < 2) {
