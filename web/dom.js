@@ -60,7 +60,10 @@ export function walkable(list, open) {
         open(place);
     }
 
-    for (const button of buttons) button.tabIndex = -1;
+    for (const button of buttons) {
+        button.tabIndex = -1;
+        button.removeAttribute("aria-current");
+    }
     list.addEventListener("click", (event) => {
         const place = buttons.indexOf(event.target.closest("button"));
         if (place >= 0) choose(place, false);

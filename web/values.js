@@ -58,7 +58,19 @@ function open(place) {
     changed(each.number.value);
 }
 
-export function refresh() {
+/* A line that stays as it was keeps its place in the page, so that many lines are quick to type in. */
+let drawn = new Map();
+
+function drawnAgain() {
+    const before = drawn;
+    drawn = new Map(lines.map((each) => [`${each.place} ${each.line}`, each]));
+    return [...drawn].map(([key, each]) => {
+        each.element = before.get(key)?.element ?? item(each);
+        return each.element;
+    });
+}
+
+function update() {
     lines = readAll(typed.value);
     typed.rows = Math.min(Math.max(lines.length, 2), 8);
     list.hidden = lines.length < 2;
@@ -67,10 +79,16 @@ export function refresh() {
         dom.fill(list);
         return open(place);
     }
-    const all = dom.element("ul", { class: "lines" }, lines.map(item));
+    const all = dom.element("ul", { class: "lines" }, drawnAgain());
     const choose = dom.walkable(all, open);
     dom.fill(list, all);
     choose(place, false);
+}
+
+/* Reads all again, as the switches are now. */
+export function refresh() {
+    drawn = new Map();
+    update();
 }
 
 /* Shows a text as if it were typed. */
@@ -91,6 +109,6 @@ export function start({ countAll, onValue }) {
     };
     typed.addEventListener("input", () => {
         dom.byId("typed-note").textContent = "";
-        refresh();
+        update();
     });
 }
