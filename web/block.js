@@ -40,13 +40,10 @@ function endLine({ ended, offset }) {
     return `end at ${offset}: ${offset < block.length ? "erased flash" : "the block's end"}`;
 }
 
+/* Plain text, so that thousands are drawn quickly. */
 function box({ sequence, answer, line }) {
-    const parts = [
-        dom.element("span", { class: "sign" }, answer.refusal ? "✗" : "✓"),
-        dom.element("span", { class: "sequence" }, `${sequence}`),
-        dom.element("span", { class: "what" }, answer.refusal ? `refused ${answer.refusal}` : reading.classString(answer)),
-    ];
-    return dom.element("li", {}, dom.element("button", { type: "button", class: answer.refusal ? "bad" : "", "aria-label": line, title: line }, parts));
+    const words = answer.refusal ? `✗ ${sequence}\nrefused ${answer.refusal}` : `✓ ${sequence}\n${reading.classString(answer)}`;
+    return dom.element("li", {}, dom.element("button", { type: "button", class: answer.refusal ? "bad" : "", "aria-label": line, title: line }, words));
 }
 
 function gap(skipped) {
