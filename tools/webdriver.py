@@ -14,8 +14,8 @@ from pathlib import Path
 ELEMENT = "element-6066-11e4-a52e-4f735466cecf"
 KEYS = {"Tab": "\ue004", "Enter": "\ue007", "Shift": "\ue008", "Control": "\ue009", "Escape": "\ue00c", "Space": " ", "End": "\ue010", "Home": "\ue011"}
 KEYS |= {"ArrowLeft": "\ue012", "ArrowUp": "\ue013", "ArrowRight": "\ue014", "ArrowDown": "\ue015"}
+PATIENCE = 300  # seconds; beside a gate a browser is slow
 # As root, as the gate runs, Chromium has no sandbox; in a container its shared memory is small.
-PATIENCE = 120  # seconds
 OPTIONS = ("--headless=new", "--no-sandbox", "--disable-dev-shm-usage", "--disable-gpu", "--force-color-profile=srgb", "--window-size=1280,1000")
 
 
@@ -28,6 +28,9 @@ class Browser:
 
     def __enter__(self):
         return self
+
+    def patient(self):
+        self.do("SetTimeouts", {"script": 1000 * PATIENCE, "pageLoad": 1000 * PATIENCE})
 
     def open(self, address):
         self.do("Navigate", {"url": address})
@@ -74,7 +77,7 @@ class Chromium(Browser):
     """A session. Ends the driver, and with it the browser, when it is left."""
 
     # Where the commands lie in WebDriver over HTTP.
-    PATHS = {"Navigate": "/url", "ExecuteScript": "/execute/sync", "ExecuteAsyncScript": "/execute/async", "FindElement": "/element", "FindElements": "/elements", "PerformActions": "/actions", "Print": "/print"}
+    PATHS = {"Navigate": "/url", "ExecuteScript": "/execute/sync", "ExecuteAsyncScript": "/execute/async", "FindElement": "/element", "FindElements": "/elements", "PerformActions": "/actions", "Print": "/print", "SetTimeouts": "/timeouts"}
     OF_ELEMENTS = {"ElementSendKeys": "/value", "ElementClick": "/click", "GetComputedRole": "/computedrole", "GetComputedLabel": "/computedlabel"}
 
     @staticmethod
@@ -95,6 +98,7 @@ class Chromium(Browser):
         made = self.send("POST", "", {"capabilities": {"alwaysMatch": {"browserName": "chrome", "goog:chromeOptions": chrome}}})
         self.base += "/" + made["sessionId"]
         self.version = f"Chromium {made['capabilities']['browserVersion']}"
+        self.patient()
 
     def __exit__(self, *_):
         try:
@@ -157,6 +161,7 @@ class Firefox(Browser):
         self.heard()
         made = self.send("WebDriver:NewSession", {"capabilities": {"alwaysMatch": {}}})
         self.version = f"Firefox {made['capabilities']['browserVersion']}"
+        self.patient()
 
     def __exit__(self, *_):
         try:
