@@ -38,6 +38,7 @@ function argument(given) {
 function plain(_, value) {
     if (typeof value === "bigint") return value.toString();
     if (value instanceof Uint8Array) return Buffer.from(value).toString("hex");
+    if (value instanceof BigUint64Array) return Array.from(value, String);
     return ArrayBuffer.isView(value) ? Array.from(value, Number) : value;
 }
 
