@@ -21,7 +21,8 @@ SOURCES = [FOLDER / name for name in ("start.S", "syndromes.c", "cases.c", "tabl
 C = ("--target=aarch64-unknown-none-elf", "-mgeneral-regs-only", "-mstrict-align")
 # One core with EL3 and EL2, and memory that has tags where the core has them. Semihosting is how the program ends the emulator.
 BOARD = ("-m", "64", "-display", "none", "-serial", "stdio", "-monitor", "none", "-nic", "none", "-semihosting", "-kernel")
-CORES = {"cortex-a57": "virt,secure=on,virtualization=on", "max": "virt,secure=on,virtualization=on,mte=on"}
+MACHINE = "virt,secure=on,virtualization=on,gic-version=3"
+CORES = {"cortex-a57": MACHINE, "max": f"{MACHINE},mte=on"}
 PATIENCE = 60  # seconds
 COUNTS = re.compile(r"^exceptions (\d+), classes (\d+), as known (\d+), refused by 01 (\d+), departs from the manual (\d+), not taken (\d+), WRONG (\d+), absent (\d+)$", flags=re.M)
 
@@ -68,12 +69,12 @@ def ran(tools, archive):
     """What to print of the cores, in one line."""
     program = built(tools, archive)
     found = {core: held(core, said_by(core, program)) for core in CORES}
-    taken = " and ".join(f"{numbers['exceptions']} exceptions of {numbers['classes']} classes on {core}" for core, numbers in found.items())
-    most = {name: max(numbers[name] for numbers in found.values()) for name in ("refused", "departed", "not_taken")}
-    return (
-        f"{taken}, each listed as tools/syndromes knows it beforehand; 01 refuses {most['refused']} of them, in {most['departed']} the emulator departs from the manual, "
-        f"and {most['not_taken']} more are not taken (docs/SYNDROMES.md)"
+    each = "; ".join(
+        f"{numbers['exceptions']} exceptions of {numbers['classes']} classes on {core}: {numbers['known']} listed as the test knows beforehand, {numbers['refused']} that 01 refuses, "
+        f"{numbers['departed']} that the emulator makes otherwise than the manual"
+        for core, numbers in found.items()
     )
+    return f"{each} (docs/SYNDROMES.md)"
 
 
 def rows(said):
