@@ -90,7 +90,7 @@ def table(tools, archive):
     """The cases as Markdown; a case that both cores took alike has one row."""
     program = built(tools, archive)
     found = [list(rows(said_by(core, program))) for core in CORES]
-    yield "| what was done | taken at | class | syndrome | |"
+    yield "| what was done | taken at | class | syndrome | remark |"
     yield "|---|---|---|---|---|"
     for pair in zip(*found):
         for core, (name, taken, verdict) in zip(CORES, pair):

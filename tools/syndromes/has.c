@@ -31,6 +31,8 @@ int has(uint8_t need) {
     switch (need) {
     case LSE:
         return at_least(id_aa64isar0_el1(), 20, 2);
+    case LRCPC:
+        return at_least(id_aa64isar1_el1(), 20, 1);
     case PAN:
         return at_least(id_aa64mmfr1_el1(), 20, 1);
     case DPB:

@@ -26,7 +26,7 @@ struct change {
 };
 
 /* What a core must have, by its ID registers (has.c). */
-enum { ANY, LSE, PAN, DPB, IDST, NO_IDST, RAS, E0PD, LPA2, VHE, PAUTH, FPAC, BTI, SVE, SME, MTE, A32, A32_EL1 };
+enum { ANY, LSE, LRCPC, PAN, DPB, IDST, NO_IDST, RAS, E0PD, LPA2, VHE, PAUTH, FPAC, BTI, SVE, SME, MTE, A32, A32_EL1 };
 
 /* Where the instructions run, as SPSR_EL3 has it, with D, A, I and F masked. */
 enum { EL0 = 0x3C0, EL1 = 0x3C5, EL2 = 0x3C9, EL3 = 0x3CD, ARM_EL0 = 0x1D0, THUMB_EL0 = 0x1F0, ARM_EL1 = 0x1D3 };
