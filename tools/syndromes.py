@@ -3,6 +3,7 @@
 
   tools/syndromes.py            runs it over the archive that tools/capi left, says how much each core took, and exits 0, or 1 where a syndrome is not as known
   tools/syndromes.py --all      says what was done, the syndrome and its listing first, of each
+  tools/syndromes.py --cores    the same on six more cores of the emulator
   tools/syndromes.py --table    the table of docs/SYNDROMES.md
 
 tools/capi runs it too. It needs qemu-system-aarch64 (Debian's qemu-system-arm)."""
@@ -22,7 +23,8 @@ C = ("--target=aarch64-unknown-none-elf", "-mgeneral-regs-only", "-mstrict-align
 # One core with EL3 and EL2, and memory that has tags where the core has them. Semihosting is how the program ends the emulator.
 BOARD = ("-m", "64", "-display", "none", "-serial", "stdio", "-monitor", "none", "-nic", "none", "-semihosting", "-kernel")
 MACHINE = "virt,secure=on,virtualization=on,gic-version=3"
-CORES = {"cortex-a57": MACHINE, "max": f"{MACHINE},mte=on"}
+CORES = ("cortex-a57", "max")
+OTHERS = ("cortex-a35", "cortex-a53", "cortex-a72", "cortex-a76", "neoverse-n1", "a64fx")
 PATIENCE = 60  # seconds
 COUNTS = re.compile(r"^exceptions (\d+), classes (\d+), as known (\d+), refused by 01 (\d+), departs from the manual (\d+), not taken (\d+), WRONG (\d+), absent (\d+)$", flags=re.M)
 
@@ -46,7 +48,7 @@ def built(tools, archive):
 def said_by(core, program):
     """What the program says on a board with this core."""
     try:
-        return run(emulator(), "-M", CORES[core], "-cpu", core, *BOARD, program, timeout=PATIENCE, stdin=subprocess.DEVNULL).decode()
+        return run(emulator(), "-M", MACHINE + (",mte=on" if core == "max" else ""), "-cpu", core, *BOARD, program, timeout=PATIENCE, stdin=subprocess.DEVNULL).decode()
     except subprocess.TimeoutExpired as late:
         (ROOM / f"{core}.said").write_bytes(late.stdout or b"")
         raise Fault(f"{core} did not end within {PATIENCE} seconds; what it said is in {ROOM.relative_to(retarget.TOP)}/{core}.said") from late
@@ -65,10 +67,10 @@ def held(core, said):
     return numbers
 
 
-def ran(tools, archive):
+def ran(tools, archive, cores=CORES):
     """What to print of the cores, in one line."""
     program = built(tools, archive)
-    found = {core: held(core, said_by(core, program)) for core in CORES}
+    found = {core: held(core, said_by(core, program)) for core in cores}
     each = "; ".join(
         f"{numbers['exceptions']} exceptions of {numbers['classes']} classes on {core}: {numbers['known']} listed as the test knows beforehand, {numbers['refused']} that 01 refuses, "
         f"{numbers['departed']} that the emulator makes otherwise than the manual"
@@ -102,7 +104,7 @@ def table(tools, archive):
 
 
 def main(arguments):
-    if arguments not in ([], ["--all"], ["--table"]):
+    if arguments not in ([], ["--all"], ["--table"], ["--cores"]):
         print(__doc__.strip(), file=sys.stderr)
         return 2
     if emulator() is None:
@@ -115,7 +117,7 @@ def main(arguments):
         if arguments == ["--table"]:
             print("\n".join(table(tools, archive)))
             return 0
-        found = ran(tools, archive)
+        found = ran(tools, archive, CORES + OTHERS if arguments == ["--cores"] else CORES)
         if arguments == ["--all"]:
             print("\n".join((ROOM / f"{core}.said").read_text() for core in CORES))
         print(f"syndromes: {found}")

@@ -149,7 +149,6 @@ CASE(ANY, EL1, "mrs of MDRAR_EL1, MDCR_EL2.TDRA", "mrs x1, mdrar_el1", ONE(MDCR2
 CASE(ANY, EL1, "msr of DBGBVR0_EL1, MDCR_EL2.TDA", "msr dbgbvr0_el1, x2", ONE(MDCR2, 7ull << 9), 0, 2, "EC=0x18 IL=1 Op0=2 Op1=0 CRn=0 CRm=0 Op2=4 Rt=2", "DBGBVR0_EL1")
 CASE(ANY, EL1, "mrs of MDSCR_EL1, MDCR_EL2.TDA", "mrs x3, mdscr_el1", ONE(MDCR2, 7ull << 9), 0, 2, "EC=0x18 IL=1 Op0=2 Op1=0 CRn=0 CRm=2 Op2=2 Rt=3 Direction=1", "MDSCR_EL1")
 CASE(ANY, EL1, "mrs of CPACR_EL1, CPTR_EL2.TCPAC", "mrs x3, cpacr_el1", ONE(CPTR2, BIT(31)), 0, 2, "EC=0x18 IL=1 Op0=3 Op1=0 CRn=1 CRm=0 Op2=2 Rt=3 Direction=1", "CPACR_EL1")
-DEPARTS(ANY, EL1, "mrs of S3_1_c15_c2_0, HCR_EL2.TIDCP", "mrs x4, s3_1_c15_c2_0", ONE(HCR, BIT(20)), 0, 2, NULL, 2, "EC=0x18 IL=1 Op0=3 Op1=1 CRn=15 CRm=2 Op2=0 Rt=4 Direction=1", "this emulator does not look at HCR_EL2.TIDCP")
 CASE(RAS, EL1, "mrs of ERRIDR_EL1, HCR_EL2.TERR", "mrs x5, erridr_el1", ONE(HCR, BIT(36)), 0, 2, "EC=0x18 IL=1 Op0=3 Op1=0 CRn=5 CRm=3 Op2=0 Rt=5 Direction=1", NULL)
 CASE(PAUTH, EL1, "msr of APIAKeyLo_EL1, HCR_EL2.APK 0", "msr apiakeylo_el1, x6", ONE(HCR, BIT(40)), 0, 2, "EC=0x18 IL=1 Op0=3 Op1=0 CRn=2 CRm=1 Op2=0 Rt=6", NULL)
 

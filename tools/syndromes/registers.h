@@ -5,7 +5,7 @@ REGISTER(CPTR3, "cptr_el3", 0x1100)                   /* EZ, ESM: vector instruc
 REGISTER(SRE3, "icc_sre_el3", 15)                     /* SRE, DFB, DIB, Enable: the interrupt controller by system registers */
 REGISTER(MDCR3, "mdcr_el3", 0)
 REGISTER(HCR, "hcr_el2", 1ull << 31 | 3ull << 40 | 1ull << 56) /* RW, APK, API, ATA */
-REGISTER(CPTR2, "cptr_el2", 0x22FF)                   /* RES1 alone */
+REGISTER(CPTR2, "cptr_el2", 0x22FF)                   /* RES1; TZ and TSM are 0 */
 REGISTER(SRE2, "icc_sre_el2", 15)
 REGISTER(HSTR, "hstr_el2", 0)
 REGISTER(CNTHCTL, "cnthctl_el2", 3)                   /* EL1PCTEN, EL1PCEN */

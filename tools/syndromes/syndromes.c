@@ -309,6 +309,7 @@ static void say_verdict(const struct known *known, enum verdict verdict) {
 
 static enum verdict tried(const struct known *known, uint32_t *classes) {
     say_words("> ", known->name);
+    say_words("did: ", known->instructions);
     if (!has(known->needs)) {
         say("absent\n");
         return ABSENT;

@@ -1,4 +1,4 @@
-/* The translation tables: stage 1 of EL1 and EL0, which EL2 uses too, and stage 2, with granules of 4 KB. Each place of enum in syndromes.h is one way in which a walk
+/* The translation tables: stage 1 of EL1 and EL0, which EL2 uses too, and stage 2, with granules of 4 KB. Each place of the enum in syndromes.h is one way in which a walk
    can end. Names of bits are the manual's, VMSAv8-64 descriptor formats. SH is 0 throughout: there is one core, and with
    TCR_EL1.DS its place is the address's. */
 #include "syndromes.h"
@@ -8,7 +8,7 @@ static TABLE_OF_512 whole[512], level1[512], level2[512], level3[512], guests2[5
 TABLE_OF_512 stage1[512];
 TABLE_OF_512 stage2[512];
 static __attribute__((aligned(4096))) uint8_t page[4096];
-/* The instructions of the cases that branch into a guarded page (cases.h). */
+/* cases.c */
 extern const char guarded[];
 
 #define MEMORY 0x40000000ull
