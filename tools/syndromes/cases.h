@@ -242,6 +242,7 @@ DEPARTS(ANY, EL0, "ic ivau at EL0, unmapped at level 3", "ic ivau, x0", NONE, AT
 DEPARTS(DPB, EL0, "dc cvap at EL0, unmapped at level 3", "dc cvap, x0", NONE, AT_3(UNMAPPED), 1, "EC=0x24 IL=1 DFSC=7", 1, "EC=0x24 IL=1 CM=1 WnR=1 DFSC=7", "this emulator looks the address up as a load does, and sets neither CM nor WnR")
 CASE(ANY, EL1, "at s1e1r, a level 3 table where there is nothing", "at s1e1r, x0", NONE, AT_2(NO_TABLE), 1, "EC=0x25 IL=1 CM=1 WnR=1 DFSC=0x17", "External abort on table walk, level 3")
 CASE(ANY, EL1, "at s1e0w, stage 2 does not map the level 2 table", "at s1e0w, x0", ONE(HCR, BIT(0)), AT_1(GUESTS_TABLE), 2, "EC=0x24 IL=1 CM=1 S1PTW=1 WnR=1 DFSC=6", NULL)
+DEPARTS(ANY, EL1, "at s1e0w, stage 2 does not map the level 3 table", "at s1e0w, x0", ONE(HCR, BIT(0)), AT_2(GUESTS_TABLE), 2, "EC=0x24 IL=1 CM=1 S1PTW=1 WnR=1 DFSC=7", 2, "EC=0x24 IL=1 CM=1 S1PTW=1 WnR=1 DFSC=6", "the status is stage 2's, which ends at level 2; this emulator gives the level of stage 1's walk")
 
 /* Data aborts of stage 2, to EL2. A load or store of one general-purpose register without writeback has a valid syndrome: SAS its size, SSE whether it extends the sign, SRT its register, SF
    whether that is 64 bits wide, AR whether it acquires or releases. */
@@ -351,6 +352,7 @@ CASE(A32, ARM_EL0, "A32: mrrc of CNTPCT, CNTKCTL_EL1.EL0PCTEN 0", ".word 0xec532
 CASE(A32, ARM_EL0, "A32: mrrc of CNTVCT, CNTKCTL_EL1.EL0VCTEN 0", ".word 0xec532f1e // mrrc p15, 1, r2, r3, c14", ONE(CNTKCTL, BIT(1)), 0, 1, "EC=4 IL=1 CV=1 COND=0xe Opc2=1 Rt2=3 Rt=2 CRm=14 Direction=1", NULL)
 CASE(A32, ARM_EL0, "A32: mcrr to CNTP_CVAL, CNTKCTL_EL1.EL0PTEN 0", ".word 0xec454f2e // mcrr p15, 2, r4, r5, c14", ONE(CNTKCTL, BIT(9)), 0, 1, "EC=4 IL=1 CV=1 COND=0xe Opc2=2 Rt2=5 Rt=4 CRm=14 Direction=0", NULL)
 CASE(A32, ARM_EL0, "A32: mrc of DBGDRAR, MDCR_EL2.TDRA", ".word 0xee116e10 // mrc p14, 0, r6, c1, c0, 0", ONE(MDCR2, BIT(11)), 0, 2, "EC=5 IL=1 CV=1 COND=0xe CRn=1 Rt=6 CRm=0 Direction=1", "Trapped MCR or MRC access with coproc=0b1110")
+DEPARTS(A32, ARM_EL0, "A32: mrc of DBGDSCRint, MDCR_EL2.TDA", ".word 0xee107e11 // mrc p14, 0, r7, c0, c1, 0", ONE(MDCR2, 7ull << 9), 0, 1, "EC=0 IL=1", 2, "EC=5 IL=1 CV=1 COND=0xe CRn=0 Rt=7 CRm=1 Direction=1", "this emulator does not let EL0 read DBGDSCRint")
 DEPARTS(A32, ARM_EL0, "A32: mrrc of DBGDRAR, MDCR_EL2.TDRA", ".word 0xec532e01, 0xef00e0e0 // mrrc p14, 0, r2, r3, c1", ONE(MDCR2, BIT(11)), 0, 2, NULL, 2, "EC=0xc IL=1 CV=1 COND=0xe Opc2=0 Rt2=3 Rt=2 CRm=1 Direction=1", "this emulator looks at MDCR_EL2.TDRA for MRC alone")
 CASE(A32, ARM_EL0, "A32: vmov, CPACR_EL1.FPEN 0", ".word 0xee000a10 // vmov s0, r0", ONE(CPACR, 3ull << 20), 0, 1, "EC=7 IL=1 CV=1 COND=0xe", NULL)
 CASE(A32, ARM_EL0, "A32: ldr, unmapped at level 1", ".word 0xe5901000 // ldr r1, [r0]", NONE, 0x80000000, 1, "EC=0x24 IL=1 DFSC=5", NULL)
@@ -372,6 +374,7 @@ CASE(A32_EL1, ARM_EL1, "A32: mcr to SCTLR at EL1, HCR_EL2.TVM", ".word 0xee018f1
 CASE(A32_EL1, ARM_EL1, "A32: mrc of ID_PFR0 at EL1, HCR_EL2.TID3", ".word 0xee109f11, 0xe1600070 // mrc p15, 0, r9, c0, c1, 0", TWO(HCR, BIT(31) | BIT(18), SCTLR1, BIT(0)), 0, 2, "EC=3 IL=1 CV=1 COND=0xe CRn=0 Rt=9 CRm=1 Direction=1", NULL)
 CASE(A32_EL1, ARM_EL1, "A32: mrc of CCSIDR at EL1, HCR_EL2.TID2", ".word 0xee302f10, 0xe1600070 // mrc p15, 1, r2, c0, c0, 0", TWO(HCR, BIT(31) | BIT(17), SCTLR1, BIT(0)), 0, 2, "EC=3 IL=1 CV=1 COND=0xe Opc1=1 Rt=2 Direction=1", NULL)
 CASE(A32_EL1, ARM_EL1, "A32: mcr to CSSELR at EL1, HCR_EL2.TID2", ".word 0xee403f10, 0xe1600070 // mcr p15, 2, r3, c0, c0, 0", TWO(HCR, BIT(31) | BIT(17), SCTLR1, BIT(0)), 0, 2, "EC=3 IL=1 CV=1 COND=0xe Opc1=2 Rt=3 Direction=0", NULL)
+DEPARTS(A32_EL1, ARM_EL1, "A32: mrc of L2CTLR at EL1, HCR_EL2.TIDCP", ".word 0xee394f50, 0xe1600070 // mrc p15, 1, r4, c9, c0, 2", TWO(HCR, BIT(31) | BIT(20), SCTLR1, BIT(0)), 0, 2, NULL, 2, "EC=3 IL=1 CV=1 COND=0xe Opc2=2 Opc1=1 CRn=9 Rt=4 CRm=0 Direction=1", "this emulator does not look at HCR_EL2.TIDCP")
 CASE(A32_EL1, ARM_EL1, "A32: mcrr to TTBR0 at EL1, HCR_EL2.TVM", ".word 0xec432f02, 0xe1600070 // mcrr p15, 0, r2, r3, c2", TWO(HCR, BIT(31) | BIT(26), SCTLR1, BIT(0)), 0, 2, "EC=4 IL=1 CV=1 COND=0xe Rt2=3 Rt=2 CRm=2 Direction=0", NULL)
 CASE(A32_EL1, ARM_EL1, "A32: mcr to DBGOSLAR at EL1, MDCR_EL2.TDOSA", ".word 0xee011e90, 0xe1600070 // mcr p14, 0, r1, c1, c0, 4", THREE(HCR, BIT(31), SCTLR1, BIT(0), MDCR2, BIT(10)), 0, 2, "EC=5 IL=1 CV=1 COND=0xe Opc2=4 CRn=1 Rt=1 CRm=0 Direction=0", NULL)
 CASE(A32_EL1, ARM_EL1, "A32: mrc of DBGDSCRint at EL1, MDCR_EL2.TDA", ".word 0xee107e11, 0xe1600070 // mrc p14, 0, r7, c0, c1, 0", THREE(HCR, BIT(31), SCTLR1, BIT(0), MDCR2, 7ull << 9), 0, 2, "EC=5 IL=1 CV=1 COND=0xe CRn=0 Rt=7 CRm=1 Direction=1", NULL)

@@ -125,9 +125,10 @@ static struct taken what_was_taken(void) {
     return at_el3;
 }
 
-/* The instructions of a case end in an svc, of A64 or of A32. */
+/* The instructions of a case end in an svc of A64 or of A32, or, at EL1 in AArch32, in an smc. */
 static int is_nothing(struct taken taken) {
-    return (class_of(taken.esr) == 0x15 || class_of(taken.esr) == 0x11) && (taken.esr & 0xFFFF) == NOTHING_TAKEN;
+    uint64_t class = class_of(taken.esr);
+    return ((class == 0x15 || class == 0x11) && (taken.esr & 0xFFFF) == NOTHING_TAKEN) || (class == 0x13 && taken.level == 3);
 }
 
 /* ---- what is known, a list of NAME=VALUE */
