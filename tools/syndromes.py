@@ -2,7 +2,7 @@
 """Real syndromes: an emulated core takes exceptions that tools/syndromes makes, and the listing of each is held to what is known of it beforehand.
 
   tools/syndromes.py            runs it over the archive that tools/capi left, says how much each core took, and exits 0, or 1 where a syndrome is not as known
-  tools/syndromes.py --all      says what was done, the syndrome and its listing first, of each
+  tools/syndromes.py --all      says first, of each case, what was done, the syndrome and its listing
   tools/syndromes.py --cores    the same on six more cores of the emulator
   tools/syndromes.py --table    the table of docs/SYNDROMES.md
 
@@ -35,6 +35,8 @@ def emulator():
 
 def built(tools, archive):
     """The program, of our sources and the archive."""
+    if not archive.is_file():
+        raise Fault(f"there is no {archive.relative_to(retarget.TOP)}: tools/capi makes it")
     ROOM.mkdir(parents=True, exist_ok=True)
     objects = []
     for source in (*SOURCES, retarget.MEMORY):
