@@ -56,7 +56,7 @@ enum {
 /* As many records as any value has: 14 inside ISS, 19 in all. */
 #define ESR_RECORDS_MAX 19
 
-/* As many bytes as any name or text has; proved. */
+/* No name or text has more bytes: proved. */
 #define ESR_TEXT_MAX 255
 
 /* An array of so many bytes holds the listing of any value. This is proved. */

@@ -13,15 +13,15 @@ use Rattle.refusals.specs.Refusals.{passed}
 use Rattle.reply_lines.specs.Lines.{numberLine, refusalLine}
 use Rattle.texts.specs.Pool.{bytes}
 
--- "A row that both have (same start, width, name and long name)"
+-- DECISIONS 109: a field that both have: same start, width, name and long name
 unfoldable pub sameField : Record → Record → Bool
 sameField x y = ((eqb (x .start) (y .start) && eqb (x .width) (y .width)) && eqb (x .name) (y .name)) && eqb (x .long) (y .long)
 
--- "and whose record is equal": what else a record has
+-- and whose record is equal: what else a record has
 unfoldable pub sameRecord : Record → Record → Bool
 sameRecord x y = (eqb (x .value) (y .value) && eqb (x .text) (y .text)) && eqb (markNumber (x .mark)) (markNumber (y .mark))
 
--- "where a condition of the class names the field, or it is the class": of either value's class
+-- whether a condition of the class names the field, or it is the class, of either value's class
 unfoldable pub bothNamed : ℕ → ℕ → Record → Bool
 bothNamed v w x = isNamed (classOf v) (x .start) (x .width) || isNamed (classOf w) (x .start) (x .width)
 
@@ -37,8 +37,8 @@ firstPart index x = markedLines (bytes "< ") index x
 unfoldable pub secondPart : ℕ → Record → List ℕ
 secondPart index y = markedLines (bytes "> ") index y
 
--- "both lists tile the bits from 63 down; at each step, if the next rows are the same they are one part; else the one with the higher start goes first,
--- and the first value's where they start alike"
+-- After the five top rows, which both have, both lists run from bit 24 down. At each step, if the next fields are the same they are one part; else the one with
+-- the higher start goes first, and the first value's where they start alike.
 unfoldable pub sideFrom : ℕ → ℕ → ℕ → ℕ → List Record → List Record → List ℕ
 sideFrom v w i j [] [] = []
 sideFrom v w i j (x ∷ xs) [] = firstPart i x ++ sideFrom v w (suc i) j xs []
@@ -51,7 +51,7 @@ sideFrom v w i j (x ∷ xs) (y ∷ ys) =
 unfoldable pub sideBySide : ℕ → ℕ → List Record → List Record → List ℕ
 sideBySide v w xs ys = sideFrom v w 0 0 xs ys
 
--- "If the rows of both are not the same (by the tables: also where only the text rule of a row differs)"
+-- if the rows of both are not the same, by the tables: also where only the text rule of a row differs
 unfoldable pub otherRows : ℕ → ℕ → List ℕ
 otherRows v w = cond (haveSameRows v w) [] (bytes "other rows: the fields marked ! decide which there are\n")
 

@@ -23,7 +23,8 @@ use Rattle.records.proofs.Laws.{field-lt, pushed, pushedAll, pushed-all, writte
 use Rattle.tables.specs.Shape.{externals}
 use Rattle.tables.specs.Applying.{passes}
 use Rattle.tables.specs.Tables.{reserved, topRows}
-use Rattle.engine_table.specs.Packed.{bit, answersOf, rowWord, placeWord, checkWord}
+use Rattle.lookup.specs.Descriptions.{bit}
+use Rattle.engine_table.specs.Packed.{answersOf, rowWord, placeWord, checkWord}
 use Rattle.engine.specs.Engine.{byteOf, rowIn, applies, rowsFrom, fails, failureFrom, checksIn, failureOf, judgement, topsOf}
 
 -- The answers.

@@ -6,6 +6,7 @@ use mathlib.Core.List.{List, [], _∷_, _++_, map}
 use lib.Dec.{eqb}
 use lib.ListN.{length, getD}
 use Rattle.promise.specs.Member.{member}
+use Rattle.lookup.specs.Descriptions.{bit}
 use Rattle.records.specs.declared.Row.{Row}
 use Rattle.tables.specs.Shape.{Test, Condition, Line, Table, tests}
 use Rattle.tables.specs.Applying.{passes, isCheckAt}
@@ -17,10 +18,6 @@ bytesOf [] = 0
 bytesOf (b ∷ bs) = b + 256 * bytesOf bs
 
 -- the answers of tests as one number: bit i is that of the i-th
-abbrev pub bit : Bool → ℕ
-bit true = 1
-bit false = 0
-
 abbrev pub maskOf : List Bool → ℕ
 maskOf [] = 0
 maskOf (b ∷ bs) = bit b + 2 * maskOf bs

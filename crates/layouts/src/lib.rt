@@ -25,7 +25,7 @@ mod sve;
 mod wf;
 
 // The rows of ISS from high bits to low; the indices of those to check, in order; how many there are of each; the rule of ISS's own text.
-// 115 bytes with no gap, so that a layout is copied as one block.
+// 101 bytes with no gap, so that a layout is copied as one block.
 pub struct Layout {
     pub rows: [Row; Records::ISS_MAX],
     pub checks: [u8; Records::ISS_MAX],

@@ -53,7 +53,7 @@ cases =
     0xBC000051 gives refusal (reservedBits 6 1 1) ∷
     0x1800000A gives refusal (carrying InvalidAm 5) ∷
     0x28000003 gives refusal (carrying InvalidLd64bIss 3) ∷
-    -- #102: 0x12 is external, so that PFV and WU are read; the four are on the list of aborts, and on no other
+    -- #102: 0x12 is external, so that PFV and WU are read; the four are on the list of aborts; of other lists only the debug layouts' has one, its single 0x22
     0x90004012 gives accepted (withText "PFV" "PFAR is valid" ∷ withText "DFSC" "External abort on table walk, level -2" ∷ []) ∷
     0x90030012 gives accepted (ofValue "WU" 3 ∷ []) ∷
     0x80004012 gives accepted (withText "PFV" "PFAR is valid" ∷ withText "IFSC" "External abort on table walk, level -2" ∷ []) ∷

@@ -16,7 +16,7 @@ fieldAt start width = record { start = start; width = width }
 unfoldable pub isField : ℕ → ℕ → ℕ → ℕ → Bool
 isField start width at wide = same (fieldAt start width) (fieldAt at wide)
 
--- "where a condition of the class names the field, or it is the class"
+-- a condition of the class names the field, or it is the class
 unfoldable pub isNamed : ℕ → ℕ → ℕ → Bool
 isNamed class start width = onList (fieldAt start width) (namedIn (tableOf (layoutNumber class)))
 

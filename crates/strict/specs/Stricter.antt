@@ -35,7 +35,7 @@ stricter =
     asked (bits 1 4 "AM" "Addressing Mode" (Coded InvalidAm) am) (0 ∷ 1 ∷ 2 ∷ 3 ∷ []) InvalidAm Number false ∷
     []
 
--- "24 and 25 carry 0"; 6 carries AM, and 1 the field's number, with its start and width
+-- 01: "Numbers added by later requests carry 0 unless said there": 24 and 25; 6 carries AM, and 1 the field's number, with its start and width
 abbrev pub telling : Tells → ℕ → ℕ → Reason → ℕ → Refusal
 telling Nothing start width reason x = record { carries = 0; start = 0; width = 0; reason = reason }
 telling Number start width reason x = record { carries = x; start = 0; width = 0; reason = reason }

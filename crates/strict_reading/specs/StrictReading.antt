@@ -1,4 +1,4 @@
--- What a strict reading is: "an ordinary reading whose rows also meet the strict list", said of the value's bits as a reading is; and when strict alone refuses.
+-- What a strict reading is: an ordinary reading whose rows also meet the strict list, said of the value's bits as a reading is; and when strict alone refuses.
 use Prim.Native.Nat.{ℕ}
 use mathlib.Core.Bool.{Bool, true}
 use mathlib.Core.List.{List, _∷_, List·Memᴰ}

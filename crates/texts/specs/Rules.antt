@@ -1,4 +1,5 @@
--- The text rules: what each says of a value. House texts and abort statuses are spelled as 01 has them, the others as the Rust.
+-- The text rules: what each says of a value. House texts and abort statuses are spelled as 01 has them, those of #102, #105 and #108 as 02 or the manual has
+-- them; `ownWords` are ours, and the others are the Rust's.
 use mathlib.Core.List.{List, [], _∷_}
 use Prim.Native.Nat.{ℕ, suc}
 use Prim.Native.String.{String}
@@ -404,7 +405,7 @@ messageEnd =
     7 means " for trapped LD64B or ST64B*" ∷
     [])
 
--- Words of our own for the refusals of lines, of entries, of strict reading and of sheets, by the refusal's number.
+-- Words of our own for the refusals of lines, of entries, of blocks, of strict reading and of sheets, by the refusal's number.
 abbrev pub ownWords : Rule
 ownWords =
     rule 47 32 (

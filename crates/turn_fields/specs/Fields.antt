@@ -16,7 +16,7 @@ use Rattle.texts.specs.Pool.{bytesAt}
 use Rattle.turn_fields.specs.declared.Place.{Place}
 use Rattle.words.specs.Words.{same}
 
--- ISS2, EC, IL and ISS's own: the leaves, but for the reserved bits 37..64, "no field that can be set"
+-- ISS2, EC, IL and ISS's own: the leaves, but for the reserved bits 37..64, which the maker has no number for (DECISIONS 110)
 unfoldable pub fieldsOf : ℕ → List Row
 fieldsOf v = drop 1 (take 4 (topRows (tableOf (layoutNumber (classOf v)) .issRule))) ++ leavesOf (layoutNumber (classOf v)) (issOf v)
 
@@ -38,7 +38,7 @@ nowhere = record { count = 0; index = 0 }
 unfoldable pub seekIn : (Row → Bool) → List Row → Place
 seekIn p rows = seekFrom p 0 nowhere rows
 
--- "the name of a leaf .. or the number of its lowest bit, decimal or hexadecimal"
+-- by the number of its lowest bit, decimal or hexadecimal (DECISIONS 110)
 unfoldable pub bitPlace : ℕ → List ℕ → Number → Place
 bitPlace v word n = cond (passed (n .refusal)) (seekIn (meansBy false word (n .value)) (fieldsOf v)) nowhere
 

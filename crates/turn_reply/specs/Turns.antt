@@ -30,14 +30,14 @@ madeOf (iss2 ∷ []) = told []
 madeOf (iss2 ∷ class ∷ []) = told []
 madeOf (iss2 ∷ class ∷ il ∷ leaves) = made class il iss2 leaves
 
--- "No such field", "several with that name"; or the one is set
+-- no such field, several with that name (DECISIONS 110); or the one is set
 unfoldable pub turnAt : ℕ → Place → ℕ → Turn
 turnAt v p number =
     cond (eqb (p .count) 0) (told (bytes "refused: no field of this value is named so\n"))
     (cond (eqb (p .count) 1) (madeOf (turned v (p .index) number))
     (told (bytes "refused: several fields are named so; give the lowest bit of one\n")))
 
--- "A VALUE that is refused is answered by its refusal line"
+-- a value that is refused is answered by its refusal line
 unfoldable pub turnOf : ℕ → List ℕ → ℕ → Turn
 turnOf v word number = cond (passed (answerOf v .refusal)) (turnAt v (placeOf v word) number) (told (refusalLine (answerOf v .refusal)))
 
