@@ -13,7 +13,9 @@ WebAssembly is little-endian with the same integers and alignments, but its poin
 pointer in memory has eight bytes of room, of which four are used. `narrow` refuses a module in which a pointer is taken for a number, or an address is counted in anything but bytes. Lengths keep
 their 64 bits.
 
-A module that looks otherwise than expected ends the tool: nothing is compiled of what is not understood."""
+A module that looks otherwise than expected ends the tool: nothing is compiled of what is not understood.
+
+    tools/retarget.py FOLDER       makes a toolchain that keeps the module of each crate that rt compiles with it in the folder, and prints its home, for RATTLE_HOME. Whoever asked removes it"""
 import atexit
 import hashlib
 import os
@@ -21,6 +23,7 @@ import platform
 import re
 import shutil
 import subprocess
+import sys
 import tempfile
 from pathlib import Path
 
@@ -161,9 +164,17 @@ def linked(folder, target, *, but):
             (target / entry.name).symlink_to(entry)
 
 
-def shadow(module):
-    """The toolchain again, as links, with a clang that first copies the module that it is handed to this path. The path stands in its text, since the back end
-    hands clang no variables. It lies where everyone can reach it, and the repository may not: as root, rt runs a program as nobody."""
+# The back end hands clang no variables, but its own command line has the name of the crate.
+KEEPING = """\
+#!/bin/sh
+if [ -f module.bc ]; then cp module.bc "{modules}/$(tr '\\0' '\\n' <"/proc/$PPID/cmdline" | sed -n '/^--crate-name$/{{n;p;q;}}').bc"; fi
+exec "{clang}" "$@"
+"""
+
+
+def shadow(modules):
+    """The toolchain again, as links, with a clang that first copies the module that it is handed into this folder, under the name of its crate. It lies where everyone can reach it,
+    and the repository may not: as root, rt runs a program as nobody."""
     room, machine = Path(tempfile.mkdtemp(prefix="kit-")), platform.machine()
     SHADOWS.append(room)
     room.chmod(0o755)
@@ -174,7 +185,7 @@ def shadow(module):
     linked(real, own / "on" / machine / "toolchain", but="bin")
     linked(real / "bin", own / "on" / machine / "toolchain" / "bin", but="clang")
     clang = own / "on" / machine / "toolchain" / "bin" / "clang"
-    clang.write_text(f'#!/bin/sh\n[ ! -f module.bc ] || cp module.bc "{module}"\nexec "{real}/bin/clang" "$@"\n')
+    clang.write_text(KEEPING.format(modules=modules, clang=real / "bin" / "clang"))
     clang.chmod(0o755)
     return own
 
@@ -188,7 +199,7 @@ def keeping(name):
     """The variables of a command of rt that compiles a crate, so that its module is kept."""
     module_of(name).parent.mkdir(parents=True, exist_ok=True)
     module_of(name).unlink(missing_ok=True)
-    return {"RATTLE_HOME": str(shadow(module_of(name)))}
+    return {"RATTLE_HOME": str(shadow(ROOM))}
 
 
 def kept(name):
@@ -469,3 +480,8 @@ def of_vectors(word):
     28, is x111 for scalar floating-point and Advanced SIMD and 0010 for SVE; in loads and stores, x1x0, bit 26 says so; SME has 0000 and bit 31."""
     op0 = word >> 25 & 0xF
     return op0 & 0x7 == 0x7 or op0 == 0x2 or (op0 & 0x5 == 0x4 and bool(word >> 26 & 1)) or (op0 == 0 and bool(word >> 31))
+
+
+if __name__ == "__main__":
+    print(shadow(Path(sys.argv[1]).resolve()))
+    SHADOWS.clear()  # it stays
