@@ -1,8 +1,8 @@
--- A part of the input, as far as a line goes: number's own step for each byte; and the number of a line, by what is done with its rest.
+-- A part of the input, as far as a line goes: number's own step for each byte; the lines of a whole input; and the number of a line, by what is done with its rest.
 use Prim.Native.Char.{code}
 use Prim.Native.Nat.{ℕ, _+_}
 use mathlib.Core.Bool.{Bool, true, false, cond, not, _&&_}
-use mathlib.Core.List.{List, [], _∷_}
+use mathlib.Core.List.{List, [], _∷_, _++_}
 use lib.Dec.{eqb}
 use Rattle.line_reader.specs.declared.LinePart.{LinePart}
 use Rattle.line_reader.specs.declared.Rest.{Rest}
@@ -26,6 +26,21 @@ partOf st at (b ∷ bs) = cond (eqb b lineFeed) (record { state = st; next = at 
 unfoldable pub oneLine : List ℕ → Bool
 oneLine [] = true
 oneLine (b ∷ bs) = not (eqb b lineFeed) && oneLine bs
+
+-- a byte in front of the first line, or alone on one
+abbrev pub inFront : ℕ → List (List ℕ) → List (List ℕ)
+inFront b [] = (b ∷ []) ∷ []
+inFront b (line ∷ lines) = (b ∷ line) ∷ lines
+
+-- "an unended last one counts"; after a last line feed there is no line
+unfoldable pub linesOf : List ℕ → List (List ℕ)
+linesOf [] = []
+linesOf (b ∷ bs) = cond (eqb b lineFeed) ([] ∷ linesOf bs) (inFront b (linesOf bs))
+
+-- an input that comes in parts, whole
+unfoldable pub joined : List (List ℕ) → List ℕ
+joined [] = []
+joined (part ∷ parts) = part ++ joined parts
 
 -- the number of a line: all of it, or as far as a remark
 abbrev pub lineNumber : Rest → List ℕ → Number

@@ -1,4 +1,3 @@
 pub mod Laws
 pub mod Decides
-pub mod Splitting
 pub mod Theorems

@@ -6,20 +6,19 @@ use mathlib.Core.List.{List, [], _∷_, _++_, append-assoc, append-nil}
 use mathlib.Core.Path.{_≡_, refl, sym, ap, _∙_}
 use native.Mathlib.Numerals.{add-one}
 use native.Mathlib.Omega.{arith}
-use lib.Dec.{T, eqb, ltb}
+use lib.Dec.{T, eqb}
 use lib.ListN.{length, set, take, drop, length-take}
 use lib.Seq.{drop-append-add, drop-nil, sets, sets-eq, take-nil, take-at}
 use borrow.Author.Tests.{eqb-true, leb-true, lt-ltb}
-use Rattle.line_reader.specs.Lines.{lineFeed, oneLine}
+use Rattle.line_reader.proofs.Splitting.{line-alone, line-and-rest, longer-line}
+use Rattle.line_reader.proofs.Theorems.{finished, one-byte-more, opened, Reads}
+use Rattle.line_reader.specs.Lines.{joined, lineFeed, linesOf, oneLine}
+use Rattle.line_reader.specs.declared.Rest.the-variants.{Skipped}
 use Rattle.number.proofs.Laws.{either}
-use Rattle.number.proofs.Stops.{steps-before}
-use Rattle.number.proofs.Theorems.{open-text, steps-append}
-use Rattle.number.specs.Steps.{start, stepOf, handedOn, stepsOf, finishBeforeOf, hasCharacter}
+use Rattle.number.specs.Steps.{start, stepOf, handedOn, finishBeforeOf, hasCharacter}
 use Rattle.number.specs.declared.Number.{Number}
-use Rattle.number.specs.declared.NumberState.{NumberState}
 use Rattle.number_lines.proofs.Laws.{end-full, end-none, end-number, last-none, last-open, goes-on, same-places, some-place, stopped, take-full}
-use Rattle.number_lines.proofs.Splitting.{line-alone, line-and-rest, longer-line}
-use Rattle.number_lines.specs.Lines.{holdsNumber, inLine, joined, linesOf, noneOf, numbersOf}
+use Rattle.number_lines.specs.Lines.{holdsNumber, inLine, noneOf, numbersOf}
 use Rattle.number_lines.specs.Runs.{endLine, Holds, isFull, noLines, onLine, takeFrom, takeLast, takeParts}
 use Rattle.number_lines.specs.declared.Lines.{Lines}
 use Rattle.number_lines.specs.declared.LinesPart.{LinesPart}
@@ -99,31 +98,16 @@ full-adds l run lines h =
     let none-left : left (l .numbers) (l .none) run ≡ 0 = omega arith in
     rw none-left (either (Added (l .numbers) (l .none) run []) (hasCharacter (l .line .stage)) (rw (end-full l run h) (nothing-added l run)) (nothing-added l run))
 
--- the line that is being read is that of the bytes taken of it
-abbrev Reads : Lines → List ℕ → Type 0
-Reads l line = T (oneLine line) × (l .line ≡ stepsOf start line)
-
-finished : (l : Lines) (line : List ℕ) → Reads l line → finishBeforeOf (l .line) ≡ inLine line
-finished l line r = ap finishBeforeOf (r .1) ∙ steps-before line
-
-opened : (l : Lines) (line : List ℕ) → Reads l line → hasCharacter (l .line .stage) ≡ ltb 0 (length line)
-opened l line r = ap (λ (st : NumberState). hasCharacter (st .stage)) (r .1) ∙ open-text line
-
-one-byte-more : (l : Lines) (line : List ℕ) (b : ℕ) → Reads l line → eqb b lineFeed ≡ false → Reads (onLine l (stepOf (l .line) b)) (line ++ (b ∷ []))
-unfolding handedOn
-one-byte-more l line b r n =
-    (longer-line line b (r .0) (is-true (ap not n)), ap (λ (st : NumberState). stepOf st b) (r .1) ∙ sym (steps-append start line (b ∷ [])))
-
 -- at the end of the input
-last-adds : (l : Lines) (run line : List ℕ) → isFull l (length run) ≡ false → Reads l line → Adds l run (linesOf line) (takeLast l run)
+last-adds : (l : Lines) (run line : List ℕ) → isFull l (length run) ≡ false → Reads (l .line) line → Adds l run (linesOf line) (takeLast l run)
 unfolding linesOf
-last-adds l run [] h r = rw (last-none l run (opened l [] r), take-nil (left (l .numbers) (l .none) run)) (nothing-added l run)
+last-adds l run [] h r = rw (last-none l run (opened (l .line) [] r), take-nil (left (l .numbers) (l .none) run)) (nothing-added l run)
 last-adds l run (b ∷ line) h r =
-    rw (last-open l run (opened l (b ∷ line) r ∙ lt-ltb 0 (length (b ∷ line)) (omega arith)), line-alone b line (r .0), one-less l run h, take-nil (left (endLine l run .0 .numbers) (endLine l run .0 .none) (endLine l run .1)))
-    (line-added l run h (b ∷ line) [] (endLine l run) (finished l (b ∷ line) r) (nothing-added (endLine l run .0) (endLine l run .1)))
+    rw (last-open l run (opened (l .line) (b ∷ line) r ∙ lt-ltb 0 (length (b ∷ line)) (omega arith)), line-alone b line (r .0), one-less l run h, take-nil (left (endLine l run .0 .numbers) (endLine l run .0 .none) (endLine l run .1)))
+    (line-added l run h (b ∷ line) [] (endLine l run) (finished (l .line) (b ∷ line) r Skipped) (nothing-added (endLine l run .0) (endLine l run .1)))
 
 -- and from any byte of it on
-adds : (at : ℕ) (l : Lines) (run line w : List ℕ) → Reads l line → Adds l run (linesOf (line ++ w)) (lastOf (takeFrom l run at w))
+adds : (at : ℕ) (l : Lines) (run line w : List ℕ) → Reads (l .line) line → Adds l run (linesOf (line ++ w)) (lastOf (takeFrom l run at w))
 unfolding takeFrom handedOn oneLine
 adds at l run line [] r = by-full (isFull l (length run)) refl
   where
@@ -132,7 +116,7 @@ adds at l run line [] r = by-full (isFull l (length run)) refl
     by-full false h = rw (append-nil line) (last-adds l run line h r)
 adds at l run line (b ∷ w) r =
     by-full (isFull l (length run)) refl (λ e. adds (at + 1) (endLine l run .0) (endLine l run .1) [] w (tt, e))
-    (λ n. adds (at + 1) (onLine l (stepOf (l .line) b)) run (line ++ (b ∷ [])) w (one-byte-more l line b r n))
+    (λ n. adds (at + 1) (onLine l (stepOf (l .line) b)) run (line ++ (b ∷ [])) w (one-byte-more (l .line) line b r n))
   where
     fed : LinesPart × List ℕ
     fed = takeFrom (endLine l run .0) (endLine l run .1) (at + 1) w
@@ -146,7 +130,7 @@ adds at l run line (b ∷ w) r =
         → (f : Bool) → eqb b lineFeed ≡ f → Adds l run (linesOf (line ++ (b ∷ w))) (lastOf (cond f fed stepped))
     by-feed h feed byte true e =
         rw (eqb-true b lineFeed e, line-and-rest line w (r .0), one-less l run h)
-        (line-added l run h line (take (left (endLine l run .0 .numbers) (endLine l run .0 .none) (endLine l run .1)) (linesOf w)) (lastOf fed) (finished l line r) feed)
+        (line-added l run h line (take (left (endLine l run .0 .numbers) (endLine l run .0 .none) (endLine l run .1)) (linesOf w)) (lastOf fed) (finished (l .line) line r Skipped) feed)
     by-feed h feed byte false e = rw (append-assoc line (b ∷ []) w) at (byte e)
 
     by-full : (f : Bool) → isFull l (length run) ≡ f

@@ -4,8 +4,7 @@ use mathlib.Core.Bool.{Bool, true, false, cond, not, _&&_}
 use mathlib.Core.List.{List, [], _∷_, _++_}
 use mathlib.Core.Path.{_≡_, refl, ap, _∙_}
 use lib.Dec.{T, eqb}
-use Rattle.line_reader.specs.Lines.{lineFeed, oneLine}
-use Rattle.number_lines.specs.Lines.{inFront, linesOf}
+use Rattle.line_reader.specs.Lines.{lineFeed, oneLine, inFront, linesOf}
 use Rattle.promise.proofs.Tests.{both-intro, both-left, both-right}
 
 -- a byte that is no line feed stands in front of the first line
