@@ -106,8 +106,10 @@ class Code:
         return found
 
     def changed(self, edit):
-        """The functions that an edit of the code changes; of an edit of the definitions none."""
+        """The functions that an edit of the code changes. One that changes the definitions as well changes none: with these a wrong function can be proved, and a theorem fails."""
         found = set()
+        if any(not file.startswith("src/") for file, _, _ in edit.pairs):
+            return found
         for file, old, _ in edit.pairs:
             for item in self.items.get(file, ()):
                 if old in item.text:
