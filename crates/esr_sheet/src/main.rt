@@ -1,7 +1,6 @@
 // The standard phrase sheet on standard output; with `--text` as lines of a code and its text, to translate; with `--from` the sheet that such lines of standard input make (#112).
 // What is written is promised by `sheets` and `sheet_reply`; here lines are read and bytes written, through fixed buffers. The first line that is refused is told, and no sheet is written.
 ghost use Prim.Native.Nat.{_≤_};
-ghost use lib.ListN.{length};
 use libc::STDERR_FILENO;
 use libc::STDIN_FILENO;
 use sheet_lines::Fault;
@@ -59,21 +58,6 @@ fn take_line(from: Standing, held: usize, line: &[u8], phrases: &mut [u8]) -> St
     }
 }
 
-// The offset of the first line feed, or of the end.
-fn line_end(part: &[u8], from: usize) -> usize
-    requires { ⌜ from ≤ length (now part) ⌝ }
-    ensures { λ r. ⌜ (from ≤ r) × (r ≤ length (now (part .entry))) ⌝ }
-{
-    let mut at = from;
-    while at < part.len() {
-        if part[at] == b'\n' {
-            return at;
-        }
-        at += 1;
-    }
-    at
-}
-
 fn holding(from: Standing, held: usize) -> Standing {
     Standing {
         held,
@@ -89,7 +73,7 @@ fn take_part(from: Standing, part: &[u8], line: &mut [u8], phrases: &mut [u8]) -
     let mut standing = from;
     let mut next: usize = 0;
     while next < part.len() {
-        let end = line_end(part, next);
+        let end = line_reader::line_end(part, next);
         let held = buffer::put_bytes(line, standing.held, &part[next..end]);
         if part.len() <= end {
             return holding(standing, held);

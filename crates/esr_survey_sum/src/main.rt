@@ -1,7 +1,6 @@
 // What surveys said, added up: lines of their outputs on standard input, and one survey of all (#101). What a line says, and the sums, are promised by `survey_reply`;
 // here lines are read and the survey is written, through fixed buffers. A line that cannot be added is told, with its number, and the others are added all the same.
 ghost use Prim.Native.Nat.{_≤_};
-ghost use lib.ListN.{length};
 use libc::STDERR_FILENO;
 use libc::STDIN_FILENO;
 use survey_reply::PLACES;
@@ -63,21 +62,6 @@ fn add_line(line: &[u8], held: usize, number: u64, left: u64, totals: &mut [u64]
     left
 }
 
-// The offset of the first line feed, or of the end.
-fn line_end(part: &[u8], from: usize) -> usize
-    requires { ⌜ from ≤ length (now part) ⌝ }
-    ensures { λ r. ⌜ (from ≤ r) × (r ≤ length (now (part .entry))) ⌝ }
-{
-    let mut at = from;
-    while at < part.len() {
-        if part[at] == b'\n' {
-            return at;
-        }
-        at += 1;
-    }
-    at
-}
-
 // Adds the lines that end in a part of the input, and holds the line that does not.
 fn add_part(from: Standing, part: &[u8], line: &mut [u8], totals: &mut [u64]) -> Standing {
     let mut held = from.held;
@@ -85,7 +69,7 @@ fn add_part(from: Standing, part: &[u8], line: &mut [u8], totals: &mut [u64]) ->
     let mut left = from.left;
     let mut next: usize = 0;
     while next < part.len() {
-        let end = line_end(part, next);
+        let end = line_reader::line_end(part, next);
         held = buffer::put_bytes(line, held, &part[next..end]);
         if part.len() <= end {
             return Standing { held, lines, left };

@@ -1,4 +1,4 @@
--- A part of the input, as far as a line goes: number's own step for each byte; the lines of a whole input; and the number of a line, by what is done with its rest.
+-- A part of the input, as far as a line goes: number's own step for each byte; where a line ends; the lines of a whole input; and the number of a line, by what is done with its rest.
 use Prim.Native.Char.{code}
 use Prim.Native.Nat.{ℕ, _+_}
 use mathlib.Core.Bool.{Bool, true, false, cond, not, _&&_}
@@ -21,6 +21,11 @@ lineFeed = code "\n"
 unfoldable pub partOf : NumberState → ℕ → List ℕ → LinePart
 partOf st at [] = record { state = st; next = at; ended = false }
 partOf st at (b ∷ bs) = cond (eqb b lineFeed) (record { state = st; next = at + 1; ended = true }) (partOf (stepOf st b) (at + 1) bs)
+
+-- the offset of the first line feed, from an offset on, or of the end
+unfoldable pub lineEnd : ℕ → List ℕ → ℕ
+lineEnd at [] = at
+lineEnd at (b ∷ bs) = cond (eqb b lineFeed) at (lineEnd (at + 1) bs)
 
 -- bytes of one line
 unfoldable pub oneLine : List ℕ → Bool

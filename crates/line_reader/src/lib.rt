@@ -1,5 +1,5 @@
-// The bytes of a line, a part of the input at a time, so that lines of any length go through a fixed buffer; and the number of a line.
-ghost use Rattle.line_reader.specs.Promises.{NumberOfLine, RestAsked, TookLine};
+// The bytes of a line, a part of the input at a time, so that lines of any length go through a fixed buffer; where a line ends; and its number.
+ghost use Rattle.line_reader.specs.Promises.{LineEnded, NumberOfLine, RestAsked, TookLine};
 use number::Number;
 use number::NumberState;
 
@@ -41,6 +41,20 @@ pub fn take_line(state: NumberState, s: &[u8], from: usize) -> LinePart
         next: at,
         ended: false,
     }
+}
+
+// Where a line ends, for a caller that keeps its bytes: the offset of its line feed, or of the end.
+pub fn line_end(s: &[u8], from: usize) -> usize
+    ensures { λ r. ⌜ LineEnded (now (s .entry), from) r ⌝ }
+{
+    let mut at = from;
+    while at < s.len() {
+        if s[at] == b'\n' {
+            return at;
+        }
+        at += 1;
+    }
+    at
 }
 
 // The number of a line that has ended.
