@@ -1,22 +1,24 @@
 -- Two lists side by side, a step at a time; and the records of a set, by index.
-use Prim.Native.Nat.{ℕ, _+_, _≤_, _<_}
-use mathlib.Core.Bool.{true, false}
+use Prim.Native.Nat.{ℕ, suc, _+_, _≤_, _<_}
+use mathlib.Core.Bool.{Bool, true, false, cond}
 use mathlib.Core.List.{List, [], _∷_, _++_, append-nil, append-assoc}
-use mathlib.Core.Path.{_≡_, sym, ap, ap₂, subst, _∙_}
+use mathlib.Core.Path.{_≡_, refl, sym, ap, subst, _∙_}
+use native.Mathlib.Nat.{add-zero}
 use native.Mathlib.Numerals.{add-one}
 use native.Mathlib.Omega.{arith}
-use lib.ListN.{length, getD, take, drop, drop-of-length-le, length-take}
+use lib.Dec.{ltb}
+use lib.ListN.{length, getD, drop, drop-of-length-le, length-take, List·getD-eq-default}
 use lib.Seq.{drop-cons, take-all, getD-take, length-take-le}
-use borrow.Author.Tests.{lt-ltb, le-ltb}
+use borrow.Author.Tests.{ltb-true, ltb-false}
 use Rattle.buffer.specs.Appending.{Appends}
 use Rattle.buffer.proofs.Appending.{and-then}
-use Rattle.diff_lines.specs.Lines.{markedLines}
-use Rattle.texts.specs.Pool.{bytes}
 use Rattle.records.specs.Sets.{listOf, noRecord, recordAt, setRoom}
 use Rattle.records.specs.declared.Record.{Record}
 use Rattle.records.specs.declared.Records.{Records}
-use Rattle.diff_reply.specs.Replies.{bothPart, firstPart, sameField, secondPart, sideBySide, sideFrom}
-use Rattle.diff_reply.specs.Steps.{Puts, Step, leftAt}
+use Rattle.diff_reply.specs.Replies.{sameField, sideBySide, sideFrom}
+use Rattle.diff_reply.specs.Steps.{Left, Puts, Step, leftAt, nextSide, ofFirst, ofSecond, partOf, sideOf}
+use Rattle.diff_reply.specs.declared.Side.{Side}
+use Rattle.diff_reply.specs.declared.Side.the-variants.{First, Second, Both}
 
 -- The records that a set counts.
 
@@ -27,81 +29,75 @@ module _ (s : Records) (long : length (s .items) ≡ setRoom) where
   pub counted-some : s .count ≤ setRoom → s .count ≡ length (listOf s)
   counted-some h = sym (length-take-le (s .count) (s .items) (omega (arith, h, long)))
 
-pub record-here : (s : Records) (i : ℕ) → i < length (listOf s) → length (listOf s) ≤ setRoom → recordAt s i ≡ getD (listOf s) i noRecord
+pub record-here : (s : Records) (i : ℕ) → length (listOf s) ≤ setRoom → recordAt s i ≡ getD (listOf s) i noRecord
 unfolding recordAt
-record-here s i h few =
-    let most : length (listOf s) ≤ s .count = omega (arith, length-take (s .count) (s .items)) in
-    rw (lt-ltb i (s .count) (omega (arith, h, most)), lt-ltb i setRoom (omega (arith, h, few)))
-    (sym (getD-take (s .count) (s .items) i noRecord (omega (arith, h, most))))
+record-here s i few = by (ltb i (s .count)) refl (ltb i setRoom) refl
+  where
+    none-here : length (listOf s) ≤ i → noRecord ≡ getD (listOf s) i noRecord
+    none-here h = sym (List·getD-eq-default (listOf s) noRecord h)
 
--- A step.
+    by : (b : Bool) → ltb i (s .count) ≡ b → (d : Bool) → ltb i setRoom ≡ d
+        → cond (ltb i (s .count)) (cond (ltb i setRoom) (getD (s .items) i noRecord) noRecord) noRecord ≡ getD (listOf s) i noRecord
+    by true e true f = rw (e, f) (sym (getD-take (s .count) (s .items) i noRecord (ltb-true i (s .count) e)))
+    by true e false f = rw (e, f) (none-here (omega (arith, few, ltb-false i setRoom f)))
+    by false e d f = rw e (none-here (omega (arith, length-take (s .count) (s .items), ltb-false i (s .count) e)))
 
-module _ (v w : ℕ) (xs ys : List Record) (i j : ℕ) where
-  pub only-first : i < length xs → length ys ≤ j → firstPart i (getD xs i noRecord) ++ leftAt v w xs ys (i + 1) j ≡ leftAt v w xs ys i j
-  unfolding sideFrom
-  only-first h k = rw (drop-cons xs i noRecord h, drop-of-length-le ys k, add-one i)
+-- A step: the part of the side that is next, by what the two lists have there, as `sideFrom` goes.
 
-  pub only-second : length xs ≤ i → j < length ys → secondPart j (getD ys j noRecord) ++ leftAt v w xs ys i (j + 1) ≡ leftAt v w xs ys i j
-  unfolding sideFrom
-  only-second h k = rw (drop-of-length-le xs h, drop-cons ys j noRecord k, add-one j)
+module _ (v w : ℕ) (xs ys : List Record) (i j : ℕ) (from : ℕ × List ℕ) (next : ℕ) (after : List ℕ) where
+  stepped : {text : List ℕ} {k l : ℕ} → text ++ leftAt v w xs ys k l ≡ leftAt v w xs ys i j → i + j < k + l → k ≤ length xs → l ≤ length ys
+      → Appends text from (next, after) → Step v w xs ys i j from (record { next = next; first = k; second = l }) after
+  stepped {text} e f g h p = record { part = record { text = text; puts = p; rest = e }; further = f; first = g; second = h }
 
-  module _ (h : i < length xs) (k : j < length ys) where
-    pub of-both : sameField (getD xs i noRecord) (getD ys j noRecord) ≡ true
-        → bothPart v w i (getD xs i noRecord) (getD ys j noRecord) ++ leftAt v w xs ys (i + 1) (j + 1) ≡ leftAt v w xs ys i j
-    unfolding sideFrom
-    of-both e = rw (drop-cons xs i noRecord h, drop-cons ys j noRecord k, e, add-one i, add-one j)
+  abbrev By : Side → Type 0
+  By side = Appends (partOf v w side i j (getD xs i noRecord) (getD ys j noRecord)) from (next, after) → Step v w xs ys i j from (record { next = next; first = i + ofFirst side; second = j + ofSecond side }) after
 
-    module _ (e : sameField (getD xs i noRecord) (getD ys j noRecord) ≡ false) where
-      pub of-second : getD xs i noRecord .start < getD ys j noRecord .start → secondPart j (getD ys j noRecord) ++ leftAt v w xs ys i (j + 1) ≡ leftAt v w xs ys i j
-      unfolding sideFrom
-      of-second f = rw (drop-cons xs i noRecord h, drop-cons ys j noRecord k, e, lt-ltb (getD xs i noRecord .start) (getD ys j noRecord .start) f, add-one j)
+  by-both : i < length xs → j < length ys → By (sideOf (getD xs i noRecord) (getD ys j noRecord))
+  unfolding sideOf sideFrom partOf
+  by-both h k = by (sameField x y) refl (ltb (x .start) (y .start)) refl
+    where
+      x : Record
+      x = getD xs i noRecord
 
-      pub of-first : getD ys j noRecord .start ≤ getD xs i noRecord .start → firstPart i (getD xs i noRecord) ++ leftAt v w xs ys (i + 1) j ≡ leftAt v w xs ys i j
-      unfolding sideFrom
-      of-first f = rw (drop-cons xs i noRecord h, drop-cons ys j noRecord k, e, le-ltb (getD xs i noRecord .start) (getD ys j noRecord .start) f, add-one i)
+      y : Record
+      y = getD ys j noRecord
 
--- What a step leaves.
+      here : drop i xs ≡ x ∷ drop (suc i) xs
+      here = drop-cons xs i noRecord h
 
-module _ (v w : ℕ) (xs ys : List Record) (i j : ℕ) {from : ℕ × List ℕ} {next : ℕ} {after : List ℕ} where
-  pub first-step : {x : Record} → x ≡ getD xs i noRecord → Appends (markedLines (bytes "< ") i x) from (next, after) → i < length xs → j ≤ length ys
-      → firstPart i (getD xs i noRecord) ++ leftAt v w xs ys (i + 1) j ≡ leftAt v w xs ys i j
-      → Step v w xs ys i j from (record { next = next; first = i + 1; second = j }) after
-  unfolding firstPart
-  first-step {x} e p h k law =
-      record {
-        part = record { text = markedLines (bytes "< ") i x; puts = p; rest = ap (λ (r : Record). markedLines (bytes "< ") i r ++ leftAt v w xs ys (i + 1) j) e ∙ law };
-        further = omega arith;
-        first = omega arith;
-        second = k;
-      }
+      there : drop j ys ≡ y ∷ drop (suc j) ys
+      there = drop-cons ys j noRecord k
 
-  pub second-step : {y : Record} → y ≡ getD ys j noRecord → Appends (markedLines (bytes "> ") j y) from (next, after) → i ≤ length xs → j < length ys
-      → secondPart j (getD ys j noRecord) ++ leftAt v w xs ys i (j + 1) ≡ leftAt v w xs ys i j
-      → Step v w xs ys i j from (record { next = next; first = i; second = j + 1 }) after
-  unfolding secondPart
-  second-step {y} e p h k law =
-      record {
-        part = record { text = markedLines (bytes "> ") j y; puts = p; rest = ap (λ (r : Record). markedLines (bytes "> ") j r ++ leftAt v w xs ys i (j + 1)) e ∙ law };
-        further = omega arith;
-        first = h;
-        second = omega arith;
-      }
+      by : (b : Bool) → sameField x y ≡ b → (d : Bool) → ltb (x .start) (y .start) ≡ d → By (cond (sameField x y) Both (cond (ltb (x .start) (y .start)) Second First))
+      by true e d f = rw e (stepped (rw (here, there, e, add-one i, add-one j)) (omega arith) (omega arith) (omega arith))
+      by false e true f = rw (e, f, add-zero i) (stepped (rw (here, there, e, f, add-one j)) (omega arith) (omega arith) (omega arith))
+      by false e false f = rw (e, f, add-zero j) (stepped (rw (here, there, e, f, add-one i)) (omega arith) (omega arith) (omega arith))
 
-  pub both-step : {x y : Record} → x ≡ getD xs i noRecord → y ≡ getD ys j noRecord → Appends (bothPart v w i x y) from (next, after) → i < length xs → j < length ys
-      → bothPart v w i (getD xs i noRecord) (getD ys j noRecord) ++ leftAt v w xs ys (i + 1) (j + 1) ≡ leftAt v w xs ys i j
-      → Step v w xs ys i j from (record { next = next; first = i + 1; second = j + 1 }) after
-  both-step {x} {y} e f p h k law =
-      record {
-        part =
-            record {
-              text = bothPart v w i x y;
-              puts = p;
-              rest = ap₂ (λ (r s : Record). bothPart v w i r s ++ leftAt v w xs ys (i + 1) (j + 1)) e f ∙ law;
-            };
-        further = omega arith;
-        first = omega arith;
-        second = omega arith;
-      }
+  by-next : Left xs ys i j → By (nextSide (drop i xs) (drop j ys))
+  unfolding nextSide sideFrom partOf
+  by-next left = by (ltb i (length xs)) refl (ltb j (length ys)) refl
+    where
+      by : (b : Bool) → ltb i (length xs) ≡ b → (d : Bool) → ltb j (length ys) ≡ d → By (nextSide (drop i xs) (drop j ys))
+      by true h true k =
+          let p = ltb-true i (length xs) h in
+          let q = ltb-true j (length ys) k in
+          rw (drop-cons xs i noRecord p, drop-cons ys j noRecord q) (by-both p q)
+      by true h false k =
+          let p = ltb-true i (length xs) h in
+          let none = drop-of-length-le ys (ltb-false j (length ys) k) in
+          rw (none, add-zero j) (stepped (rw (drop-cons xs i noRecord p, none, add-one i)) (omega arith) (omega arith) (left .second))
+      by false h true k =
+          let none = drop-of-length-le xs (ltb-false i (length xs) h) in
+          let q = ltb-true j (length ys) k in
+          let there = drop-cons ys j noRecord q in
+          rw (none, there, add-zero i) (stepped (rw (none, there, add-one j)) (omega arith) (left .first) (omega arith))
+      by false h false k = absurd (omega (arith, ltb-false i (length xs) h, ltb-false j (length ys) k))
+
+pub step : {v w : ℕ} {xs ys : List Record} {i j : ℕ} {from : ℕ × List ℕ} {next : ℕ} {after : List ℕ} {side : Side} {x y : Record} {k l : ℕ}
+    → Left xs ys i j → side ≡ nextSide (drop i xs) (drop j ys) → x ≡ getD xs i noRecord → y ≡ getD ys j noRecord
+    → Appends (partOf v w side i j x y) from (next, after) → k ≡ ofFirst side → l ≡ ofSecond side
+    → Step v w xs ys i j from (record { next = next; first = i + k; second = j + l }) after
+step {v} {w} {xs} {ys} {i} {j} {from} {next} {after} left side x y p e f = rw (e, f, side) (by-next v w xs ys i j from next after left (rw (side, x, y) at p))
 
 -- Steps, one after the other.
 

@@ -1,11 +1,11 @@
 // What `esr diff` says of two values, byte for byte, in a lent buffer from an offset on: the records of both side by side, or why a value is refused (#114).
-ghost use Prim.Native.Nat.{_+_, _<_, _≤_};
+ghost use Prim.Native.Nat.{_≤_};
 ghost use Rattle.buffer.specs.Appending.{Appends};
 ghost use Rattle.diff_reply.specs.Promises.{DiffReply, NotTwo};
 ghost use Rattle.diff_reply.specs.Replies.{bothNamed, bothPart, otherRows, refusedPart, sameField, sameRecord, sideBySide};
-ghost use Rattle.diff_reply.specs.Steps.{Step};
+ghost use Rattle.diff_reply.specs.Steps.{Left, Step, nextSide, ofFirst, ofSecond, partOf, sideOf};
 ghost use Rattle.records.specs.Sets.{listOf};
-ghost use lib.ListN.{length};
+ghost use lib.ListN.{drop, length};
 ghost use mathlib.Core.Path.{_≡_};
 use buffer::put_bytes;
 use diff_lines::put_changed;
@@ -74,11 +74,87 @@ fn counted(records: Records) -> usize
     records.count
 }
 
+// Which reading has the next part.
+enum Side {
+    First,
+    Second,
+    Both,
+}
+
+// Of two records: both, if they are of one row; else the one with the higher start goes first.
+fn side_of(x: Record, y: Record) -> Side
+    ensures { λ r. ⌜ r ≡ sideOf x y ⌝ }
+{
+    if same_field(x, y) {
+        return Side::Both;
+    }
+    if x.start < y.start {
+        return Side::Second;
+    }
+    Side::First
+}
+
+// A reading that has no record left leaves the part to the other.
+fn next_side(first: Records, second: Records, i: usize, j: usize) -> Side
+    ensures { λ r. ⌜ r ≡ nextSide (drop i (listOf first)) (drop j (listOf second)) ⌝ }
+{
+    if counted(second) <= j {
+        return Side::First;
+    }
+    if counted(first) <= i {
+        return Side::Second;
+    }
+    side_of(first.at(i), second.at(j))
+}
+
+// The part of a side: of either alone, under its mark, or of both.
+fn put_part(
+    buf: &mut [u8],
+    at: usize,
+    v: u64,
+    w: u64,
+    side: Side,
+    i: usize,
+    j: usize,
+    x: Record,
+    y: Record,
+) -> usize
+    ensures { λ r. ⌜ Appends (partOf v w side i j x y) (at, now (buf .entry)) (r, now (buf .exit)) ⌝ }
+{
+    match side {
+        Side::First => put_marked(buf, at, b"< ", i, x),
+        Side::Second => put_marked(buf, at, b"> ", j, y),
+        Side::Both => put_both(buf, at, v, w, i, x, y),
+    }
+}
+
 // Where the two lists stand after a step.
 struct Turn {
     next: usize,
     first: usize,
     second: usize,
+}
+
+// How many records of the first list the part takes.
+fn of_first(side: Side) -> usize
+    ensures { λ r. ⌜ (r ≡ ofFirst side) × (r ≤ 1) ⌝ }
+{
+    match side {
+        Side::First => 1,
+        Side::Second => 0,
+        Side::Both => 1,
+    }
+}
+
+// And of the second.
+fn of_second(side: Side) -> usize
+    ensures { λ r. ⌜ (r ≡ ofSecond side) × (r ≤ 1) ⌝ }
+{
+    match side {
+        Side::First => 0,
+        Side::Second => 1,
+        Side::Both => 1,
+    }
 }
 
 // One part: of both, or of the one that goes first.
@@ -92,50 +168,15 @@ fn put_step(
     i: usize,
     j: usize,
 ) -> Turn
-    requires { ⌜ (i ≤ length (listOf first)) × (j ≤ length (listOf second)) × (i + j < length (listOf first) + length (listOf second)) ⌝ }
+    requires { ⌜ Left (listOf first) (listOf second) i j ⌝ }
     ensures { λ r. ⌜ Step v w (listOf first) (listOf second) i j (at, now (buf .entry)) r (now (buf .exit)) ⌝ }
 {
-    let n = counted(first);
-    let m = counted(second);
-    let x = first.at(i);
-    let y = second.at(j);
-    if m <= j {
-        let next = put_marked(buf, at, b"< ", i, x);
-        return Turn {
-            next,
-            first: i + 1,
-            second: j,
-        };
-    }
-    if n <= i {
-        let next = put_marked(buf, at, b"> ", j, y);
-        return Turn {
-            next,
-            first: i,
-            second: j + 1,
-        };
-    }
-    if same_field(x, y) {
-        let next = put_both(buf, at, v, w, i, x, y);
-        return Turn {
-            next,
-            first: i + 1,
-            second: j + 1,
-        };
-    }
-    if x.start < y.start {
-        let next = put_marked(buf, at, b"> ", j, y);
-        return Turn {
-            next,
-            first: i,
-            second: j + 1,
-        };
-    }
-    let next = put_marked(buf, at, b"< ", i, x);
+    let side = next_side(first, second, i, j);
+    let next = put_part(buf, at, v, w, side, i, j, first.at(i), second.at(j));
     Turn {
         next,
-        first: i + 1,
-        second: j,
+        first: i + of_first(side),
+        second: j + of_second(side),
     }
 }
 

@@ -39,7 +39,12 @@ put-step-requires c κs =
     let l = t .before in
     let m = l .before in
     let n = m .before in
-    (l .loop .inv .0, l .loop .inv .1, omega (arith, t .loop-test .taken, m .counted2 .ensures, n .counted .ensures))
+    record {
+      first = l .loop .inv .0;
+      second = l .loop .inv .1;
+      more = omega (arith, t .loop-test .taken, m .counted2 .ensures, n .counted .ensures);
+      few = omega (arith, m .counted2 .ensures, n .counted .ensures);
+    }
 
 loop-less : tie.Need-loop-less Inv-loop μ-loop
 loop-less c =
