@@ -1,4 +1,6 @@
 -- Five appenders, one after the other, of what decode answers.
+use mathlib.Core.Path.{_≡_}
+use Rattle.strict.specs.Strict.{answerBy}
 use borrow.Author.Needs.{needs}
 use Rattle.buffer.proofs.Appending.{and-then}
 use Rattle.texts.specs.Pool.{bytes}
@@ -15,7 +17,9 @@ returns c =
     let s = r .before .before .before .before in
     let t = s .before .before .before .before in
     let d = t .before .before .before in
-    rw (← (d .decode-by .ensures)) (and-then (and-then (and-then (and-then (t .put-verdict .ensures) (s .put-place .ensures)) (r .put-numbers .ensures)) (q .put-meaning .ensures)) (p .put-bytes .ensures))
+    let a = d .before .before .args in
+    let is : d .decode-by .result ≡ answerBy (a .profile) (a .entry .esr) = d .decode-by .ensures in
+    rw (← is) (and-then (and-then (and-then (and-then (t .put-verdict .ensures) (s .put-place .ensures)) (r .put-numbers .ensures)) (q .put-meaning .ensures)) (p .put-bytes .ensures))
 
 pub put-entry-line-spec : {M : Type 1} → statement M
 put-entry-line-spec =
