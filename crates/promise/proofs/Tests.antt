@@ -92,6 +92,7 @@ or_right true b t = tt
 or_right false b t = t
 
 pub member_of : (x : ℕ) (ys : List ℕ) → Memᴰ x ys → T (member x ys)
+member_of x [] m = elim m [ ]
 member_of x (y ∷ ys) (Memᴰ.head e) = or_left (eqb x y) (member x ys) (is_true (eq-eqb x y e))
 member_of x (y ∷ ys) (Memᴰ.tail m) = or_right (eqb x y) (member x ys) (member_of x ys m)
 
@@ -105,5 +106,6 @@ of-member x (y ∷ ys) t = by (eqb x y) refl t (of-member x ys)
 
 -- what a test shows of every entry it shows of each
 pub every_mem : {A : Type 0} (f : ℕ → A → Bool) (x : A) (i : ℕ) (xs : List A) → T (every f i xs) → Memᴰ x xs → (j : ℕ) × T (f j x)
+every_mem f x i [] t m = elim m [ ]
 every_mem f x i (y ∷ ys) t (Memᴰ.head e) = (i, subst (λ z. T (f i z)) (sym e) (both_left (f i y) (every f (suc i) ys) t))
 every_mem f x i (y ∷ ys) t (Memᴰ.tail m) = every_mem f x (suc i) ys (both_right (f i y) (every f (suc i) ys) t) m

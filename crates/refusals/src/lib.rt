@@ -1,4 +1,6 @@
 // The refusals of 01 and 02: the reason, its number, and what a refusal carries. Nothing lies below but what a promise is.
+#![tactic(auto)]
+
 ghost use Rattle.refusals.specs.Promises.{Carrying, Number, ValueNumber, ValuePlace};
 
 // The reasons, in the order of their numbers; None where nothing is refused.
@@ -115,6 +117,7 @@ impl Refusal {
 pub const VALUE_NUMBERS: usize = 9;
 
 // The number at a place of these, in their order; 0 past the last.
+#[tactic(auto, unfolding(crate::specs::Values::value_numbers))]
 pub fn value_number(place: usize) -> u8
     ensures { ValueNumber place result }
 {

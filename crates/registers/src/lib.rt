@@ -1,4 +1,6 @@
 // The system registers that have a name here, by their keys: where a key stands in the table of names.
+#![tactic(auto)]
+
 ghost use Rattle.registers.specs.Promises.{Placed};
 
 // How many there are, and the place of none.

@@ -1,4 +1,6 @@
 // Whether two words are the same, byte for byte: how a program knows its option.
+#![tactic(auto)]
+
 ghost use Rattle.words.specs.Promises.{Compared};
 ghost use Rattle.std.specs.Prelude.{◌≡◌};
 
