@@ -121,6 +121,16 @@ def below(crate):
             run(*proving(each), cwd=folder(each))
 
 
+def program(crate):
+    """A program as rt links it, with the C library, proved and built where that is still to be done."""
+    path = folder(crate) / "out" / crate
+    if not is_by_ci():
+        run("rt", "run", cwd=folder(crate), stdin=subprocess.DEVNULL)
+    if not path.is_file():
+        raise Fault(f"rt left no program {path.relative_to(TOP)}")
+    return path
+
+
 def building(crate, *more):
     """The command that proves and builds a crate, in its folder, over the libraries below it as they stand in their folders."""
     own, home = needs(), kit()
@@ -142,9 +152,9 @@ def main(arguments):
     if arguments != ["--by-ci"]:
         print(__doc__.strip(), file=sys.stderr)
         return 2
-    missing = [crate for crate in named() if (folder(crate) / "src" / "lib.rt").is_file() and not (rlib(crate) / "format").is_file()]
+    missing = [crate for crate in named() if not (folder(crate) / "out" / crate).is_file() and not (rlib(crate) / "format").is_file()]
     if missing:
-        print(f"repository: rt ci left no library {', '.join(missing)}", file=sys.stderr)
+        print(f"repository: rt ci left neither a library nor a program of {', '.join(missing)}", file=sys.stderr)
         return 1
     BY_CI.parent.mkdir(parents=True, exist_ok=True)
     BY_CI.write_text(state())
