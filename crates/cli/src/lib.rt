@@ -1,6 +1,7 @@
 // What the programs for machines read and write: lines of any length, through fixed buffers. What they say of a line is promised by
 // `records_reply`; they differ in the kind of reply alone, so the reading of the input stands here. The caller says what is done with what stands behind a
 // number (#107).
+#![tactic(auto)]
 ghost use Rattle.cli.specs.Promises.{Answered};
 ghost use Rattle.std.specs.Prelude.{◌≡◌};
 
@@ -11,7 +12,7 @@ use records_reply::{put_number_reply, put_records_reply};
 use strict::Profile;
 
 // What a program says of each line.
-#[derive(Drop)]
+#[derive(Clone, Copy)]
 pub enum Kind {
     // `ok 0xH` or `refused N`.
     Number,

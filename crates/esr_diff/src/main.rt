@@ -1,5 +1,6 @@
 // The records of two values side by side (#114). The values are numbers, one to a line of standard input. What is said of them is promised by `diff_reply`; here lines of any
 // length are read, through fixed buffers.
+#![tactic(auto)]
 use given_numbers::{Given, Reading};
 use libc::STDIN_FILENO;
 

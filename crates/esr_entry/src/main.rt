@@ -1,5 +1,6 @@
 // A flash entry at the start of standard input: its numbers, its body and the listing of its ESR, or its refusal. What is said of it is promised by
 // `entry_reply`. With the option `--strict` or `--nested`, in the second place, the ESR is read strictly (#110).
+#![tactic(auto)]
 ghost use Rattle.std.specs.Prelude.{◌≤◌, length, ◌≡◌};
 
 use entry_reply::put_entry_reply;

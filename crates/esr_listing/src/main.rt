@@ -2,6 +2,7 @@
 // promised by `listing_reply`; here lines of any length are read and replies are written, through fixed buffers. A line is one whole number, or with
 // `--remarks` begins with one (#107). With a second option, `--strict` or `--nested`, values are read strictly (#110). With a third, `--sheet`, the texts are those of the sheet
 // that the command hands on in the fourth place, and of the standard sheet (#112).
+#![tactic(auto)]
 ghost use Rattle.std.specs.Prelude.{◌≡◌, ◌≤◌, length};
 
 use libc::STDIN_FILENO;
@@ -14,7 +15,7 @@ use strict::{Profile, profile_asked};
 const SHEET: usize = 65537;
 
 // What the options ask for.
-#[derive(Drop)]
+#[derive(Clone, Copy)]
 struct Asked {
     rest: Rest,
     profile: Profile,
@@ -23,7 +24,7 @@ struct Asked {
 
 // Where a run stands between two parts of its input: the line that is being read, how many lines have ended, whether more than one line is known of, so that lines
 // are named, and whether the first one has ended and waits to be answered.
-#[derive(Drop)]
+#[derive(Clone, Copy)]
 struct Standing {
     line: NumberState,
     count: u64,

@@ -1,5 +1,6 @@
 // A value made of numbers, one to a line of standard input: the class, IL, ISS2 and the leaves of ISS from high to low (#106); with `--help` the sets of leaves of a class.
 // What is said of them is promised by `make_reply`; here lines of any length are read, through fixed buffers.
+#![tactic(auto)]
 ghost use Rattle.std.specs.Prelude.{◌≤◌, length, ◌≡◌};
 
 use given_numbers::{Given, Reading};

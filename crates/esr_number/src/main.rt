@@ -1,4 +1,5 @@
 // Each line of standard input is one whole number, or with `--remarks` begins with one (#107): `ok 0xH` or `refused N` for each.
+#![tactic(auto)]
 use cli::Kind;
 use line_reader::rest_asked;
 

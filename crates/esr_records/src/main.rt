@@ -1,5 +1,6 @@
 // Each line of standard input is one whole number, or with `--remarks` begins with one (#107), a value: a canonical block for each, the refusal or a line for each record. With a second option, `--strict` or
 // `--nested`, values are read strictly (#110).
+#![tactic(auto)]
 use cli::Kind;
 use line_reader::rest_asked;
 use strict::profile_asked;

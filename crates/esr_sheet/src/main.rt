@@ -1,5 +1,6 @@
 // The standard phrase sheet on standard output; with `--text` as lines of a code and its text, to translate; with `--from` the sheet that such lines of standard input make (#112).
 // What is written is promised by `sheets` and `sheet_reply`; here lines are read and bytes written, through fixed buffers. The first line that is refused is told, and no sheet is written.
+#![tactic(auto)]
 ghost use Rattle.std.specs.Prelude.{◌≤◌};
 
 use libc::{STDERR_FILENO, STDIN_FILENO};
@@ -7,7 +8,7 @@ use sheet_lines::Fault;
 
 // Where a run stands between two parts of its input: how many bytes of the line came, how many lines have ended, where the phrases end, the code that the next line must have at
 // least, and whether a line was refused.
-#[derive(Drop)]
+#[derive(Clone, Copy)]
 struct Standing {
     held: usize,
     lines: u64,

@@ -3,6 +3,7 @@
 //
 // Without a word it counts the first 4,096 lines. `--all` counts every line, a run of 4,096 after the other, and says how many values were refused too. With a second
 // option, `--strict` or `--nested`, values are read strictly (#110).
+#![tactic(auto)]
 ghost use Rattle.std.specs.Prelude.{◌≤◌, length, ◌≡◌};
 
 use libc::{STDERR_FILENO, STDIN_FILENO};
@@ -11,7 +12,7 @@ use strict::{Profile, profile_asked};
 use survey_reply::PLACES;
 
 // What the options ask for.
-#[derive(Drop)]
+#[derive(Clone, Copy)]
 struct Asked {
     all: bool,
     profile: Profile,

@@ -1,5 +1,6 @@
 // What surveys said, added up: lines of their outputs on standard input, and one survey of all (#101). What a line says, and the sums, are promised by `survey_reply`;
 // here lines are read and the survey is written, through fixed buffers. A line that cannot be added is told, with its number, and the others are added all the same.
+#![tactic(auto)]
 ghost use Rattle.std.specs.Prelude.{◌≤◌};
 
 use libc::{STDERR_FILENO, STDIN_FILENO};
@@ -12,7 +13,7 @@ const LINE: usize = 64;
 const TOLD_MAX: u64 = 10;
 
 // Where the run stands between two parts of the input: how many bytes of the line came, how many lines have ended, and how many more are told if they cannot be added.
-#[derive(Drop)]
+#[derive(Clone, Copy)]
 struct Standing {
     held: usize,
     lines: u64,

@@ -1,5 +1,6 @@
 // A value with one field set (#114). The value and the number are lines of standard input, and the field is the option. What is said of them is promised by `turn_reply`; here lines
 // of any length are read, through fixed buffers.
+#![tactic(auto)]
 use given_numbers::{Given, Reading};
 use libc::STDIN_FILENO;
 

@@ -1,5 +1,6 @@
 // A fault block on standard input: a line for each entry, what was lost between two, the counts, and where and why the walk ended. What is said of it
 // is promised by `walk_reply`. With the option `--strict` or `--nested`, in the second place, values are read strictly (#110).
+#![tactic(auto)]
 ghost use Rattle.std.specs.Prelude.{◌≤◌, length, ◌≡◌};
 
 use libc::STDIN_FILENO;

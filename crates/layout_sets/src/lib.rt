@@ -1,5 +1,6 @@
 // The sets of rows that a layout can have: an ISS for each outcome of the tests that 01's conditions name, so that every set is that of one of them, and
 // when a set fits a list of leaf values (specs/), which at most one does (proofs/).
+#![tactic(auto)]
 ghost use Rattle.layout_sets.specs.Outcomes.{kind_of, status_at};
 ghost use Rattle.layout_sets.specs.Promises.{Index, Outcome};
 ghost use Rattle.promise.specs.Member.{member};

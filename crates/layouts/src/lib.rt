@@ -1,5 +1,6 @@
 // The layouts of ISS: the rows of each and when they apply. A routine for each, in a file and under a name as the Rust has
 // them; here a routine only gives the rows, and decodes nothing.
+#![tactic(auto)]
 ghost use Rattle.layouts.specs.Promises.{LayoutOf};
 ghost use Rattle.layouts.specs.Layouts.{layout_for};
 ghost use Rattle.tables.specs.Tables.{res0};
@@ -26,7 +27,7 @@ mod wf;
 
 // The rows of ISS from high bits to low; the indices of those to check, in order; how many there are of each; the rule of ISS's own text.
 // 101 bytes with no gap, so that a layout is copied as one block.
-#[derive(Drop)]
+#[derive(Clone, Copy)]
 pub struct Layout {
     pub rows: [Row; Records::ISS_MAX],
     pub checks: [u8; Records::ISS_MAX],

@@ -1,5 +1,6 @@
 // Standard input and output: what was read, counted, and what is held in a buffer, written. No contract can say what the system does, so where it
 // fails that is told on standard error.
+#![tactic(auto)]
 ghost use Rattle.streams.specs.Promises.{Flushed, Read};
 ghost use Rattle.std.specs.Prelude.{take, ◌≡◌};
 

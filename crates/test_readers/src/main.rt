@@ -6,6 +6,7 @@
 //   'f'  numbers at the front (#107): the same
 //   'n'  whole numbers: what begins with these bytes and goes on with 0xFF, of each length
 //   'e'  entries: the same
+#![tactic(auto)]
 ghost use Rattle.std.specs.Prelude.{◌≡◌, ◌<◌, length};
 
 use buffer::put_bytes;
@@ -25,13 +26,13 @@ const WORDS: u64 = 0x1000000;
 
 const WIDTH: usize = 64;
 
-#[derive(Drop)]
+#[derive(Clone, Copy)]
 struct Line {
     bytes: [u8; WIDTH],
     length: usize,
 }
 
-#[derive(Drop)]
+#[derive(Clone, Copy)]
 struct Run {
     line: Line,
     count: u64,

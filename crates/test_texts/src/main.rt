@@ -2,6 +2,7 @@
 // record and of two indices past the last, and the two value strings of each record. Then, once, value strings and messages at and past
 // the ends of what is accepted. Each call is made again in buffers of five lengths, which are parts of a room full of one byte: what is
 // answered, and what the whole room then holds, has to follow from the text or the refusal that was printed.
+#![tactic(auto)]
 ghost use Rattle.std.specs.Prelude.{◌≡◌, length};
 
 use libc::STDOUT_FILENO;
@@ -36,7 +37,7 @@ const VALUE: u8 = 3;
 const BINARY: u8 = 4;
 
 // A function, and what it is called with; only a message has a start and a width.
-#[derive(Drop)]
+#[derive(Clone, Copy)]
 struct Call {
     function: u8,
     first: u64,
@@ -67,7 +68,7 @@ fn made(call: Call, buf: &mut [u8]) -> Written {
 }
 
 // An answer in numbers; that of the refusal is 0 where there is none. The prover is quicker with these than with the reason.
-#[derive(Drop)]
+#[derive(Clone, Copy)]
 struct Told {
     number: u64,
     carried: u64,

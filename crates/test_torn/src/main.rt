@@ -1,5 +1,6 @@
 // Torn entries on their whole way, through read_entry and decode. Standard input has sound entries of every layout; each is torn in every
 // way below, and what is still accepted is counted. Erased flash reads 0xFF, so what was not written is all ones.
+#![tactic(auto)]
 use libc::STDOUT_FILENO;
 
 const SIZE: usize = 13;
@@ -11,7 +12,7 @@ const LOWER: usize = 9;
 
 // How many entries were tried, how many of them differ from the sound entry and how many of those are accepted; the ESR of the first
 // accepted one, before and after.
-#[derive(Drop)]
+#[derive(Clone, Copy)]
 struct Tally {
     tried: u64,
     changed: u64,
@@ -115,7 +116,7 @@ fn say_count(name: &[u8], count: u64) {
 }
 
 // What becomes of an entry: nothing, or the ways in which it is torn.
-#[derive(Drop)]
+#[derive(Clone, Copy)]
 enum Way {
     Whole,
     EitherWord,
