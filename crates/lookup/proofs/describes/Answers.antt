@@ -7,4 +7,6 @@ use Rattle.lookup.proofs.describes.Goals as goal
 
 pub returns : goal.returns
 returns c =
-    c.has.ensures ∙ ap (λ (s : Descriptions). bit_in s.0 c.args.value) c.in_numbers-s.ensures ∙ bit_in_lem c.args.rule c.args.value
+    c.has.ensures
+    ∙ ap (λ (s : Descriptions). bit_in s.0 c.args.value) c.in_numbers-s.ensures
+    ∙ bit_in_lem c.args.rule c.args.value

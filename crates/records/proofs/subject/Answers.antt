@@ -11,7 +11,9 @@ pub returns-then-rule-ne-SYSTEM_REGISTER : goal.returns-then-rule-ne-SYSTEM_REGI
 unfolding subject
 returns-then-rule-ne-SYSTEM_REGISTER c =
     let a = c.args in
-    sym (ap (λ (b : Bool). cond b (place_in registers (key_of a.value)) a.value) (ne_eqb a.rule system_register.number c.if-rule-ne-SYSTEM_REGISTER.true))
+    sym
+    (ap (λ (b : Bool). cond b (place_in registers (key_of a.value)) a.value)
+    (ne_eqb a.rule system_register.number c.if-rule-ne-SYSTEM_REGISTER.true))
 
 pub returns : goal.returns
 unfolding subject
@@ -19,4 +21,6 @@ returns c =
     let a = c.args in
     c.place.ensures
     ∙ ap (place_in registers) c.key.ensures
-    ∙ sym (ap (λ (b : Bool). cond b (place_in registers (key_of a.value)) a.value) (eq-eqb a.rule system_register.number c.if-rule-ne-SYSTEM_REGISTER.false))
+    ∙ sym
+    (ap (λ (b : Bool). cond b (place_in registers (key_of a.value)) a.value)
+    (eq-eqb a.rule system_register.number c.if-rule-ne-SYSTEM_REGISTER.false))

@@ -11,7 +11,8 @@ use Rattle.records.proofs.ByMark.{allows_by, marked-allows}
 use Rattle.records.proofs.Row.meets.Goals as goal
 
 -- by each mark what is asked is what the row asks
-marked : (row : Row) (v : ℕ) (y : Mark) → y ≡ mark_of (row_kind row) → allows_by y row.rule (value_in v row) ≡ meets v row
+marked : (row : Row) (v : ℕ) (y : Mark) → y ≡ mark_of (row_kind row)
+    → allows_by y row.rule (value_in v row) ≡ meets v row
 unfolding meets
 marked row v y e = marked-allows (row_kind row) _ y row.rule (value_in v row) e refl
 

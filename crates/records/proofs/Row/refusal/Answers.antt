@@ -18,7 +18,9 @@ marked row v y e = marked-refusal row.kind _ y row.start row.width (value_in v r
 
 pub returns-in-Free : goal.returns-in-Free
 returns-in-Free c =
-    c.carrying.ensures ∙ ap (carrying None) c.field-carries.ensures ∙ marked c.args.self c.args.v _ c.in-Free.ensures
+    c.carrying.ensures
+    ∙ ap (carrying None) c.field-carries.ensures
+    ∙ marked c.args.self c.args.v _ c.in-Free.ensures
 
 pub returns-in-Coded : goal.returns-in-Coded
 returns-in-Coded c =
