@@ -1,5 +1,6 @@
 // What stands in the pool: the length of a text by its code, and how a rule describes a value.
 #![tactic(auto)]
+
 ghost use Rattle.lookup.specs.Promises.{LengthIn, LengthOf, Describes, Has, TextCode};
 ghost use Rattle.lookup.specs.Descriptions.{numbers_of};
 ghost use Rattle.std.specs.Prelude.{◌≡◌};

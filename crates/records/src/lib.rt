@@ -1,5 +1,6 @@
 // The vocabulary of a reading: fields of a value, rows, records and sets of them.
 #![tactic(auto)]
+
 ghost use Rattle.records.specs.Promises.{AsBit, At, Emptied, Field, Got, Meets, Number, Refused};
 ghost use Rattle.records.specs.Kinds.{kind_of, mark_of, reason_at};
 ghost use Rattle.records.specs.Sets.{no_record};
@@ -82,6 +83,8 @@ fn reason_at(index: u8) -> Reason
 }
 
 // The key of the system register that an ISS of MSR and MRS names: Op0 on top, then Op1, CRn, CRm, Op2.
+// Each field is below two to its width, so that no product and no sum passes 16 bits.
+#[tactic(auto, using(crate::proofs::Laws::field_lt), unfolding(crate::specs::Subjects::key_of))]
 fn key(iss: u64) -> u16
     ensures { result ≡ key_of iss }
 {

@@ -2,6 +2,7 @@
 // A constant array is built anew by each function that indexes it, so a caller with more than one byte to read fetches the pool and the
 // starts once and lends them.
 #![tactic(auto)]
+
 ghost use Rattle.texts.specs.Promises.{Pool, Starts};
 
 pub mod names;

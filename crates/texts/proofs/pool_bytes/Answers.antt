@@ -4,12 +4,8 @@ use Rattle.registers.specs.Registers.{registers}
 use Rattle.texts.specs.Names.{names}
 use Rattle.texts.specs.Pool.{pool, flat, bytes, texts, described, by_value, text_in}
 use Rattle.texts.specs.Rules.{rules}
-use Rattle.texts.proofs.pool_bytes.Statement.{statement}
-use Rattle.texts.proofs.pool_bytes.Tie as tie
+use Rattle.texts.proofs.pool_bytes.Goals as goal
 
-returns : tie.Need-returns
+pub returns : goal.returns
 unfolding pool flat bytes texts described by_value text_in names rules registers
 returns c = refl
-
-pub pool-bytes-spec : {M : Type 1} → statement M
-pool-bytes-spec = tie.close (tie.spec returns)

@@ -4,12 +4,8 @@ use Rattle.registers.specs.Registers.{registers}
 use Rattle.texts.specs.Names.{names}
 use Rattle.texts.specs.Pool.{starts, starts_from, bytes, texts, described, by_value, text_in}
 use Rattle.texts.specs.Rules.{rules}
-use Rattle.texts.proofs.text_starts.Statement.{statement}
-use Rattle.texts.proofs.text_starts.Tie as tie
+use Rattle.texts.proofs.text_starts.Goals as goal
 
-returns : tie.Need-returns
+pub returns : goal.returns
 unfolding starts starts_from bytes texts described by_value text_in names rules registers
 returns c = refl
-
-pub text-starts-spec : {M : Type 1} → statement M
-text-starts-spec = tie.close (tie.spec returns)
