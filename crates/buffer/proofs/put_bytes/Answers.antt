@@ -30,5 +30,6 @@ returns c =
     record {
       is =
           ap₂ (λ (n : ℕ) (m : List ℕ). (n, m)) c.offset_after.ensures
-          (l.invariant.1 ∙ ap (λ (k : ℕ). sets a.buf.now a.at (take k a.src.now)) e ∙ ap (sets a.buf.now a.at) t.2);
+          (l.invariant.1 ∙ ap (λ (k : ℕ). sets a.buf.now a.at (take k a.src.now)) e
+          ∙ ap (sets a.buf.now a.at) t.2);
     }
