@@ -1,6 +1,5 @@
 -- The invariant: the digits that are left, put from the next place on, make of the buffer what all of them make of it
--- at first; the next one
--- stands on top.
+-- at first; the next one stands on top.
 use mathlib.Core.Path.{◌≡◌}
 use Prim.Native.Nat.{◌+◌, ◌-◌, ◌*◌, ◌%◌, ◌^◌, ◌≤◌}
 use lib.ListN.{length}
