@@ -1,5 +1,6 @@
 // Reads one flash entry, big-endian: its numbers, and its body as a part of the caller's own block.
 #![tactic(auto)]
+
 ghost use Rattle.std.specs.Prelude.{◌<◌, ◌^◌, ◌≤◌, length, ◌≡◌};
 ghost use Rattle.entry.specs.BigEndian.{big_endian};
 ghost use Rattle.entry.specs.Entries.{judged, lent};

@@ -1,6 +1,7 @@
 // Reads phrase sheets (#112): whether a sheet is sound, and where the phrase of a code lies in two sheets, the workshop's asked first. Bytes past
 // a sheet's length are not read.
 #![tactic(auto)]
+
 ghost use Rattle.std.specs.Prelude.{◌+◌, ◌-◌, ◌<◌, ◌≤◌, length, ◌≡◌};
 ghost use Rattle.entry.specs.Entries.{lent};
 ghost use Rattle.phrases.specs.Promises.{Finds, HasPhrase, Phrase, SheetRefusal, SheetsRefusal};
