@@ -1,5 +1,6 @@
 // The bytes of a line, a part of the input at a time, so that lines of any length go through a fixed buffer; where a line ends; and its number.
 #![tactic(auto)]
+
 ghost use Rattle.line_reader.specs.Promises.{LineEnded, NumberOfLine, RestAsked, TookLine};
 
 use number::{Number, NumberState};

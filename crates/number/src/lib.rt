@@ -1,6 +1,7 @@
 // Reads a number as Rust's library does: an optional "0x", an optional "+", then digits, as far as the first stop (#107), the state after each byte
 // handed on to the next.
 #![tactic(auto)]
+
 ghost use Rattle.std.specs.Prelude.{◌≡◌, ◌<◌, ◌≤◌, false, drop};
 ghost use Rattle.number.specs.Digits.{base_of, digit_of};
 ghost use Rattle.number.specs.Numbers.{in_digits, read_digit, refused};
@@ -70,6 +71,7 @@ struct Lead {
 }
 
 // What ends a number (#107): a space, tab, carriage return or line feed.
+#[tactic(auto, unfolding(crate::specs::Rest::is_stop))]
 fn is_stop(b: u8) -> bool
     ensures { result ≡ is_stop b }
 {
@@ -104,6 +106,7 @@ fn digit_of(hex: bool, b: u8) -> u64
     wrapping_sub_u64(b as u64, b'0' as u64)
 }
 
+#[tactic(auto, unfolding(crate::specs::Steps::stage_after))]
 fn stage_after(stage: Stage, b: u8) -> Stage
     ensures { result ≡ stage_after stage b }
 {
