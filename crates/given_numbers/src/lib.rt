@@ -1,5 +1,6 @@
 // The numbers that a command is given, one to a line of its input, a part of the input at a time: how many lines there are, and the first that holds none.
 #![tactic(auto)]
+
 ghost use Rattle.given_numbers.specs.Given.{take_number};
 ghost use Rattle.given_numbers.specs.Promises.{LastTaken, PartTaken, Started};
 ghost use Rattle.std.specs.Prelude.{set, ◌≡◌};
