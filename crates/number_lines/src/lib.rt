@@ -1,5 +1,6 @@
 // The numbers of a run of lines, a line at a time and a part of the input at a time: as many lines as the lent run has places, so that each has one.
 #![tactic(auto)]
+
 ghost use Rattle.number_lines.specs.Promises.{Filled, LastTaken, LinesTaken, Started};
 ghost use Rattle.number_lines.specs.Runs.{end_line, on_line};
 ghost use Rattle.std.specs.Prelude.{◌≡◌};
