@@ -1,6 +1,7 @@
 // The layouts of ISS: the rows of each and when they apply. A routine for each, in a file and under a name as the Rust has
 // them; here a routine only gives the rows, and decodes nothing.
 #![tactic(auto)]
+
 ghost use Rattle.layouts.specs.Promises.{LayoutOf};
 ghost use Rattle.layouts.specs.Layouts.{layout_for};
 ghost use Rattle.tables.specs.Tables.{res0};
@@ -52,6 +53,7 @@ fn decode_iss_res0(iss: u64) -> Layout
 }
 
 // The layout of a number, for this ISS; a number of no layout has the last one.
+#[tactic(auto, unfolding(crate::specs::Layouts::table_of, tables::specs::Tables::layouts))]
 pub fn layout_of(number: u8, iss: u64) -> Layout
     ensures { LayoutOf (number, iss) result }
 {

@@ -6,12 +6,8 @@ use Rattle.tables.specs.Applying.{rows_for}
 use Rattle.layouts.specs.Layouts.{layout_for}
 use Rattle.records.specs.Kinds.{kind_of}
 use Rattle.tables.specs.Tables.{wf}
-use Rattle.layouts.proofs.wf.decode_iss_wf.Statement.{statement}
-use Rattle.layouts.proofs.wf.decode_iss_wf.Tie as tie
+use Rattle.layouts.proofs.wf.decode_iss_wf.Goals as goal
 
-returns : tie.Need-returns
+pub returns : goal.returns
 unfolding layout_for rows_for wf code index_in names kind_of
 returns c = refl
-
-pub decode-iss-wf-spec : {M : Type 1} → statement M
-decode-iss-wf-spec = tie.close (tie.spec returns)

@@ -5,13 +5,9 @@ use Rattle.texts.specs.Pool.{code, index_in}
 use Rattle.tables.specs.Applying.{rows_for}
 use Rattle.layouts.specs.Layouts.{layout_for}
 use Rattle.records.specs.Kinds.{kind_of}
-use Rattle.tables.specs.Tables.{fp}
-use Rattle.layouts.proofs.fp.decode_iss_fp.Statement.{statement}
-use Rattle.layouts.proofs.fp.decode_iss_fp.Tie as tie
+use Rattle.tables.specs.Tables.{ldc}
+use Rattle.layouts.proofs.ldc.decode_iss_ldc.Goals as goal
 
-returns : tie.Need-returns
-unfolding layout_for rows_for fp code index_in names kind_of
+pub returns : goal.returns
+unfolding layout_for rows_for ldc code index_in names kind_of
 returns c = refl
-
-pub decode-iss-fp-spec : {M : Type 1} → statement M
-decode-iss-fp-spec = tie.close (tie.spec returns)

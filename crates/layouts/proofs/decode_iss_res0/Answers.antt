@@ -6,12 +6,8 @@ use Rattle.tables.specs.Applying.{rows_for}
 use Rattle.layouts.specs.Layouts.{layout_for}
 use Rattle.records.specs.Kinds.{kind_of}
 use Rattle.tables.specs.Tables.{res0}
-use Rattle.layouts.proofs.decode_iss_res0.Statement.{statement}
-use Rattle.layouts.proofs.decode_iss_res0.Tie as tie
+use Rattle.layouts.proofs.decode_iss_res0.Goals as goal
 
-returns : tie.Need-returns
+pub returns : goal.returns
 unfolding layout_for rows_for res0 code index_in names kind_of
 returns c = refl
-
-pub decode-iss-res0-spec : {M : Type 1} → statement M
-decode-iss-res0-spec = tie.close (tie.spec returns)

@@ -6,12 +6,8 @@ use Rattle.tables.specs.Applying.{rows_for}
 use Rattle.layouts.specs.Layouts.{layout_for}
 use Rattle.records.specs.Kinds.{kind_of}
 use Rattle.tables.specs.Tables.{mcrr}
-use Rattle.layouts.proofs.mcr.decode_iss_mcrr.Statement.{statement}
-use Rattle.layouts.proofs.mcr.decode_iss_mcrr.Tie as tie
+use Rattle.layouts.proofs.mcr.decode_iss_mcrr.Goals as goal
 
-returns : tie.Need-returns
+pub returns : goal.returns
 unfolding layout_for rows_for mcrr code index_in names kind_of
 returns c = refl
-
-pub decode-iss-mcrr-spec : {M : Type 1} → statement M
-decode-iss-mcrr-spec = tie.close (tie.spec returns)

@@ -6,12 +6,8 @@ use Rattle.tables.specs.Applying.{rows_for}
 use Rattle.layouts.specs.Layouts.{layout_for}
 use Rattle.records.specs.Kinds.{kind_of}
 use Rattle.tables.specs.Tables.{brk}
-use Rattle.layouts.proofs.breakpoint.decode_iss_breakpoint.Statement.{statement}
-use Rattle.layouts.proofs.breakpoint.decode_iss_breakpoint.Tie as tie
+use Rattle.layouts.proofs.breakpoint.decode_iss_breakpoint.Goals as goal
 
-returns : tie.Need-returns
+pub returns : goal.returns
 unfolding layout_for rows_for brk code index_in names kind_of
 returns c = refl
-
-pub decode-iss-breakpoint-spec : {M : Type 1} → statement M
-decode-iss-breakpoint-spec = tie.close (tie.spec returns)

@@ -6,12 +6,8 @@ use Rattle.tables.specs.Applying.{rows_for}
 use Rattle.layouts.specs.Layouts.{layout_for}
 use Rattle.records.specs.Kinds.{kind_of}
 use Rattle.tables.specs.Tables.{ld64b}
-use Rattle.layouts.proofs.ld64b.decode_iss_ld64b.Statement.{statement}
-use Rattle.layouts.proofs.ld64b.decode_iss_ld64b.Tie as tie
+use Rattle.layouts.proofs.ld64b.decode_iss_ld64b.Goals as goal
 
-returns : tie.Need-returns
+pub returns : goal.returns
 unfolding layout_for rows_for ld64b code index_in names kind_of
 returns c = refl
-
-pub decode-iss-ld64b-spec : {M : Type 1} → statement M
-decode-iss-ld64b-spec = tie.close (tie.spec returns)

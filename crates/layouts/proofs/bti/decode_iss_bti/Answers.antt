@@ -6,12 +6,8 @@ use Rattle.tables.specs.Applying.{rows_for}
 use Rattle.layouts.specs.Layouts.{layout_for}
 use Rattle.records.specs.Kinds.{kind_of}
 use Rattle.tables.specs.Tables.{bti}
-use Rattle.layouts.proofs.bti.decode_iss_bti.Statement.{statement}
-use Rattle.layouts.proofs.bti.decode_iss_bti.Tie as tie
+use Rattle.layouts.proofs.bti.decode_iss_bti.Goals as goal
 
-returns : tie.Need-returns
+pub returns : goal.returns
 unfolding layout_for rows_for bti code index_in names kind_of
 returns c = refl
-
-pub decode-iss-bti-spec : {M : Type 1} → statement M
-decode-iss-bti-spec = tie.close (tie.spec returns)

@@ -1,4 +1,5 @@
--- The compiler asks for 0x10 and for the range 0x12 to 0x17: within it a computed test finds each on the list, outside it none is.
+-- The compiler asks for 0x10 and for the range 0x12 to 0x17: within it a computed test finds each on the list, outside
+-- it none is.
 use mathlib.Core.Path.{◌≡◌, sym, ap, subst}
 use mathlib.Core.Bool.{Bool, true, false}
 use Prim.Native.Nat.{ℕ, ◌+◌, ◌-◌, ◌≤◌, ◌<◌}
@@ -8,8 +9,7 @@ use borrow.Author.Tests.{ne_eqb}
 use Rattle.promise.proofs.Tests.{from_at, true_is}
 use Rattle.promise.specs.Member.{member}
 use Rattle.tables.specs.Shape.{externals}
-use Rattle.layouts.proofs.abort.is_external_abort_fsc.Statement.{statement}
-use Rattle.layouts.proofs.abort.is_external_abort_fsc.Tie as tie
+use Rattle.layouts.proofs.abort.is_external_abort_fsc.Goals as goal
 
 abbrev listed : ℕ → Bool
 listed x = member x externals
@@ -34,17 +34,14 @@ outside x a h =
     no : (n : ℕ) → 0x12 ≤ n → n < 0x18 → x ≡ n → ⊥
     no n p q e = h (omega (arith, e)) (omega (arith, e))
 
-returns : tie.Need-returns
-returns c = outside c.before.before.args.status c.before.match.rest.1 (λ p q. absurd (omega arith))
+pub returns-in_default : goal.returns-in_default
+returns-in_default c = outside c.args.status (λ e. omega (arith, e)) (λ p q. omega arith)
 
-returns-2 : tie.Need-returns-2
-returns-2 c = outside c.before.before.before.args.status c.before.before.match.rest.1 (λ p q. absurd (omega arith))
+pub returns-in_default-2 : goal.returns-in_default-2
+returns-in_default-2 c = outside c.args.status (λ e. omega (arith, e)) (λ p q. omega arith)
 
-returns-3 : tie.Need-returns-3
-returns-3 c = let e : c.before.args.status ≡ 0x10 = omega arith in ap listed (sym e)
+pub returns-in-16 : goal.returns-in-16
+returns-in-16 c = let e : c.args.status ≡ 0x10 = omega arith in ap listed (sym e)
 
-returns-4 : tie.Need-returns-4
-returns-4 c = inside c.before.before.before.args.status (omega arith) (omega arith)
-
-pub is-external-abort-fsc-spec : {M : Type 1} → statement M
-is-external-abort-fsc-spec = tie.close (tie.spec returns returns-2 returns-3 returns-4)
+pub returns-in-16-2 : goal.returns-in-16-2
+returns-in-16-2 c = inside c.args.status (omega arith) (omega arith)

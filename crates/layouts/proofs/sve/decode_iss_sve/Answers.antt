@@ -6,12 +6,8 @@ use Rattle.tables.specs.Applying.{rows_for}
 use Rattle.layouts.specs.Layouts.{layout_for}
 use Rattle.records.specs.Kinds.{kind_of}
 use Rattle.tables.specs.Tables.{sve}
-use Rattle.layouts.proofs.sve.decode_iss_sve.Statement.{statement}
-use Rattle.layouts.proofs.sve.decode_iss_sve.Tie as tie
+use Rattle.layouts.proofs.sve.decode_iss_sve.Goals as goal
 
-returns : tie.Need-returns
+pub returns : goal.returns
 unfolding layout_for rows_for sve code index_in names kind_of
 returns c = refl
-
-pub decode-iss-sve-spec : {M : Type 1} → statement M
-decode-iss-sve-spec = tie.close (tie.spec returns)

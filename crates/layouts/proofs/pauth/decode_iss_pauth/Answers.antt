@@ -6,12 +6,8 @@ use Rattle.tables.specs.Applying.{rows_for}
 use Rattle.layouts.specs.Layouts.{layout_for}
 use Rattle.records.specs.Kinds.{kind_of}
 use Rattle.tables.specs.Tables.{pauth}
-use Rattle.layouts.proofs.pauth.decode_iss_pauth.Statement.{statement}
-use Rattle.layouts.proofs.pauth.decode_iss_pauth.Tie as tie
+use Rattle.layouts.proofs.pauth.decode_iss_pauth.Goals as goal
 
-returns : tie.Need-returns
+pub returns : goal.returns
 unfolding layout_for rows_for pauth code index_in names kind_of
 returns c = refl
-
-pub decode-iss-pauth-spec : {M : Type 1} → statement M
-decode-iss-pauth-spec = tie.close (tie.spec returns)

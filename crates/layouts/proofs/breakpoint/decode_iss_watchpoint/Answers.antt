@@ -6,12 +6,8 @@ use Rattle.tables.specs.Applying.{rows_for}
 use Rattle.layouts.specs.Layouts.{layout_for}
 use Rattle.records.specs.Kinds.{kind_of}
 use Rattle.tables.specs.Tables.{watchpoint}
-use Rattle.layouts.proofs.breakpoint.decode_iss_watchpoint.Statement.{statement}
-use Rattle.layouts.proofs.breakpoint.decode_iss_watchpoint.Tie as tie
+use Rattle.layouts.proofs.breakpoint.decode_iss_watchpoint.Goals as goal
 
-returns : tie.Need-returns
+pub returns : goal.returns
 unfolding layout_for rows_for watchpoint code index_in names kind_of
 returns c = refl
-
-pub decode-iss-watchpoint-spec : {M : Type 1} → statement M
-decode-iss-watchpoint-spec = tie.close (tie.spec returns)

@@ -6,12 +6,8 @@ use Rattle.tables.specs.Applying.{rows_for}
 use Rattle.layouts.specs.Layouts.{layout_for}
 use Rattle.records.specs.Kinds.{kind_of}
 use Rattle.tables.specs.Tables.{msr}
-use Rattle.layouts.proofs.msr.decode_iss_msr.Statement.{statement}
-use Rattle.layouts.proofs.msr.decode_iss_msr.Tie as tie
+use Rattle.layouts.proofs.msr.decode_iss_msr.Goals as goal
 
-returns : tie.Need-returns
+pub returns : goal.returns
 unfolding layout_for rows_for msr code index_in names kind_of
 returns c = refl
-
-pub decode-iss-msr-spec : {M : Type 1} → statement M
-decode-iss-msr-spec = tie.close (tie.spec returns)

@@ -6,12 +6,8 @@ use Rattle.tables.specs.Applying.{rows_for}
 use Rattle.layouts.specs.Layouts.{layout_for}
 use Rattle.records.specs.Kinds.{kind_of}
 use Rattle.tables.specs.Tables.{hvc}
-use Rattle.layouts.proofs.hvc.decode_iss_hvc.Statement.{statement}
-use Rattle.layouts.proofs.hvc.decode_iss_hvc.Tie as tie
+use Rattle.layouts.proofs.hvc.decode_iss_hvc.Goals as goal
 
-returns : tie.Need-returns
+pub returns : goal.returns
 unfolding layout_for rows_for hvc code index_in names kind_of
 returns c = refl
-
-pub decode-iss-hvc-spec : {M : Type 1} → statement M
-decode-iss-hvc-spec = tie.close (tie.spec returns)

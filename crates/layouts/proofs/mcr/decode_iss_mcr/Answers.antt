@@ -6,12 +6,8 @@ use Rattle.tables.specs.Applying.{rows_for}
 use Rattle.layouts.specs.Layouts.{layout_for}
 use Rattle.records.specs.Kinds.{kind_of}
 use Rattle.tables.specs.Tables.{mcr}
-use Rattle.layouts.proofs.mcr.decode_iss_mcr.Statement.{statement}
-use Rattle.layouts.proofs.mcr.decode_iss_mcr.Tie as tie
+use Rattle.layouts.proofs.mcr.decode_iss_mcr.Goals as goal
 
-returns : tie.Need-returns
+pub returns : goal.returns
 unfolding layout_for rows_for mcr code index_in names kind_of
 returns c = refl
-
-pub decode-iss-mcr-spec : {M : Type 1} → statement M
-decode-iss-mcr-spec = tie.close (tie.spec returns)
