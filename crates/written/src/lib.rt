@@ -1,6 +1,7 @@
 // What is written at the front of a lent buffer: a field's two value strings, and a refusal's message. The whole text is measured first, by an
 // appender without a buffer; then it is refused or written. A refusal leaves the buffer as it was.
 #![tactic(auto)]
+
 ghost use Rattle.strings.specs.Messages.{message_text};
 ghost use Rattle.written.specs.Outcomes.{Answers, text};
 ghost use Rattle.written.specs.Promises.{BinaryString, Message, ValueString, WrittenRefused};
