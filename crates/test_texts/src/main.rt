@@ -3,12 +3,13 @@
 // the ends of what is accepted. Each call is made again in buffers of five lengths, which are parts of a room full of one byte: what is
 // answered, and what the whole room then holds, has to follow from the text or the refusal that was printed.
 #![tactic(auto)]
+
 ghost use Rattle.std.specs.Prelude.{◌≡◌, length};
 
-use libc::STDOUT_FILENO;
 use number::{Number, NumberState};
 use records::{Record, Records};
 use refusals::Refusal;
+use streams::{STDIN, STDOUT};
 use written::Written;
 
 // Longer than any listing by more than MORE: a part of it that a call wants and it has not counts as wrong.
@@ -185,7 +186,7 @@ fn with_lengths(tally: u64, call: Call, whole: Told, left: &[u8; ROOM]) -> u64 {
 }
 
 fn say(text: &[u8]) {
-    io::write_all(STDOUT_FILENO, text);
+    io::write_all(STDOUT, text);
 }
 
 fn end_line() {
@@ -198,16 +199,16 @@ fn space() {
 
 fn say_number(name: &[u8], number: u64) {
     say(name);
-    io::print_decimal(STDOUT_FILENO, number);
+    io::print_decimal(STDOUT, number);
 }
 
 fn say_hex(name: &[u8], number: u64) {
     say(name);
-    io::print_hex(STDOUT_FILENO, number, 1);
+    io::print_hex(STDOUT, number, 1);
 }
 
 fn say_index(index: usize) {
-    io::print_decimal(STDOUT_FILENO, index as u64);
+    io::print_decimal(STDOUT, index as u64);
     space();
 }
 
@@ -432,7 +433,7 @@ fn say_tally(tally: u64) {
 
 fn main() {
     let mut given = io::large_buffer();
-    let n = io::read_full(0, &mut given);
+    let n = io::read_full(STDIN, &mut given);
     let mut tally = say_given(0, &given[0..n]);
     tally = say_far_widths(say_widths(tally));
     say_tally(say_far_bits(say_far_messages(say_messages(tally))));
