@@ -23,6 +23,7 @@ from pathlib import Path
 
 HERE = Path(__file__).resolve().parent
 sys.path.insert(0, str(HERE.parent / "tools"))
+import repository
 import retarget
 
 ORACLE = HERE / "oracle"
@@ -85,12 +86,12 @@ def absent(sources):
     return True
 
 
-def runner():
-    """What stands before one of our programs, which are for x86-64: on another processor, the toolchain's emulator and loader."""
-    if platform.machine() == "x86_64":
-        return []
-    tools = Path(shutil.which("rt")).resolve().parent.parent / "on" / platform.machine() / "toolchain"
-    return [tools / "bin" / "qemu-x86_64", tools / "lib" / "ld-linux-x86-64.so.2", "--library-path", tools / "lib"]
+def programs(*names):
+    """Our programs as the toolchain links them, proved and built where that is still to be done, each by its name."""
+    try:
+        return {name: repository.program(name) for name in names}
+    except repository.Fault as fault:
+        fail(fault)
 
 
 def version_of(compiler):

@@ -17,7 +17,9 @@ __attribute__((weak)) program esr_listing, esr_records, esr_number, esr_entry, e
 long read(int file, void *bytes, size_t length);
 long write(int file, const void *bytes, size_t length);
 long rattle_arg(size_t index, uint8_t *bytes, size_t length);
+int rattle_errno(void);
 void rattle_set_errno(int error);
+long __sysv_signal(int number, long handler);
 
 enum { IN = 0, OUT = 1, ERR = 2 };
 enum { ANSWERED = 0, REFUSED = 1, FAILED = 2 };
@@ -222,8 +224,19 @@ long rattle_arg(size_t index, uint8_t *bytes, size_t length) {
 }
 
 /* No program looks at what is set. */
+int rattle_errno(void) {
+    return 0;
+}
+
 void rattle_set_errno(int error) {
     (void)error;
+}
+
+/* A program begins by asking that a write to a reader who has gone fails. Here it ends the command, as it does any other. */
+long __sysv_signal(int number, long handler) {
+    (void)number;
+    (void)handler;
+    return 0;
 }
 
 /* Each word as a line. A line feed inside a word becomes a space: each ends a number, so the answer is the word's. */

@@ -10,17 +10,14 @@ import subprocess
 import sys
 import time
 from contextlib import contextmanager, suppress
-from pathlib import Path
 
+import repository
 import retarget
 
-TOP = Path(__file__).resolve().parent.parent
-CRATES = TOP / "crates.txt"
-TARGET = TOP / "target"
-ROOM = TARGET / "esr"
+TOP = repository.TOP
+ROOM = TOP / "target" / "esr"
 LOG = ROOM / "build.log"
-JOBS = ROOM / "jobs"  # a folder for each crate that is being proved, in which rt keeps what it says of it
-SHARED = ("rlib", "stamp", "obj", "bin")  # what rt leaves for the crates above
+JOBS = ROOM / "jobs"  # what was said of each crate that is being proved
 LISTING = "esr_listing"
 # The command's words, each with the program that it asks for; without one of them it is the listing.
 COMMANDS = {"records": "esr_records", "number": "esr_number", "entry": "esr_entry", "walk": "esr_walk", "survey": "esr_survey", "make": "esr_make", "diff": "esr_diff", "turn": "esr_turn", "sheet": "esr_sheet"}
@@ -64,26 +61,6 @@ def tell(message):
 # ---- how far a build is
 
 
-def needs():
-    """The crates of the repository that each crate names, in the order of crates.txt."""
-    lines = [line.partition("#")[0].partition(":") for line in CRATES.read_text().splitlines()]
-    named = {name.strip(): rest.split() for name, colon, rest in lines if colon}
-    return {name: [need for need in rest if need in named] for name, rest in named.items()}
-
-
-def rests_on(program):
-    """The crates that a program rests on, and the program, each with the crates that it names; those come first on which the longest chain rests."""
-    named, height = needs(), {program: 0}
-    left = [program]
-    while left:
-        crate = left.pop()
-        for need in named[crate]:
-            if height.get(need, -1) <= height[crate]:
-                height[need] = height[crate] + 1
-                left.append(need)
-    return {crate: named[crate] for crate in sorted(height, key=lambda crate: -height[crate])}
-
-
 def progress(crates, proving, done, began):
     doing = f"proving {', '.join(proving)}" if proving else "building"
     return f"esr: {doing} ({len(done)} of {len(crates)} done, {time.time() - began:.0f} s)"
@@ -115,19 +92,12 @@ def processors():
     return min(MOST_JOBS, len(os.sched_getaffinity(0)))
 
 
-def job(crate, variables):
-    """Begins to prove a crate whose needs are proved, with these variables. Several commands of rt must not share a folder for what they say of a crate, so each has a repository of
-    its own, of links; what they prove they share."""
-    top = JOBS / crate
-    shutil.rmtree(top, ignore_errors=True)
-    (top / "target").mkdir(parents=True)
-    for name in ("crates.txt", "crates"):
-        (top / name).symlink_to(TOP / name)
-    for name in SHARED:
-        (TARGET / name).mkdir(exist_ok=True)
-        (top / "target" / name).symlink_to(TARGET / name)
-    with (top / "said").open("wb") as said:
-        return subprocess.Popen(["rt", "check", crate], cwd=top, stdin=subprocess.DEVNULL, stdout=said, stderr=said, start_new_session=True, env=os.environ | variables)
+def job(crate):
+    """Begins to prove a crate whose needs are proved; a program is compiled too, and its module kept."""
+    JOBS.mkdir(parents=True, exist_ok=True)
+    command = retarget.keeping(crate) if crate in PROGRAMS else repository.proving(crate)
+    with (JOBS / crate).open("wb") as said:
+        return subprocess.Popen(command, cwd=repository.folder(crate), stdin=subprocess.DEVNULL, stdout=said, stderr=said, start_new_session=True)
 
 
 def end(number, running):
@@ -155,29 +125,21 @@ def catching():
             signal.signal(number, handler)
 
 
-def variables(program):
-    """What rt is given to build a program, whose module is kept: rt is to build it even if it has before."""
-    (TARGET / "stamp" / program).unlink(missing_ok=True)
-    return retarget.keeping(program)
+def to_prove(programs):
+    """What is proved for these programs. What rt ci has just proved is taken as it stands; else rt itself sees what has changed since, which it does quickly where little has."""
+    return {program: [] for program in programs} if repository.is_by_ci() else repository.rests_on(*programs)
 
 
-def to_prove(program):
-    """What is proved for a program. Where all that it rests on was proved before, rt itself sees what has changed since, which it does quickly where little has."""
-    crates = rests_on(program)
-    proved = all((TARGET / "stamp" / crate).is_file() for crate in crates if crate != program)
-    return {program: []} if proved else crates
-
-
-def prove(program):
-    """Proves a program and what it rests on, each crate as soon as its needs are proved, and builds it; answers the status of the first rt that failed, or 0."""
-    crates, began = to_prove(program), time.time()
-    left, done, running, status = list(crates), [], {}, 0
+def prove(programs):
+    """Proves programs and what they rest on, each crate as soon as its needs are proved, and compiles them; answers the first crate whose command failed and its status, or None."""
+    crates, began = to_prove(programs), time.time()
+    left, done, running, failed = list(crates), [], {}, None
     with LOG.open("wb") as log, catching() as came:
-        while running or (left and not status):
-            ready = [crate for crate in left if not status and set(crates[crate]) <= set(done)]
+        while running or (left and not failed):
+            ready = [crate for crate in left if not failed and set(crates[crate]) <= set(done)]
             for crate in ready[: processors() - len(running)]:
                 left.remove(crate)
-                running[crate] = job(crate, variables(crate) if crate == program else {})
+                running[crate] = job(crate)
             if is_watched():
                 show(progress(crates, list(running), done, began))
             time.sleep(TURN)
@@ -185,12 +147,13 @@ def prove(program):
                 end(came[0], running)
             for crate in [crate for crate, run in running.items() if run.poll() is not None]:
                 ended = running.pop(crate)
-                log.write((JOBS / crate / "said").read_bytes())
-                status = status or ended.returncode
+                log.write((JOBS / crate).read_bytes())
+                if ended.returncode:
+                    failed = failed or (crate, ended.returncode)
                 done.append(crate)
     if is_watched():
         show("")
-    return status
+    return failed
 
 
 def path_of(program):
@@ -204,28 +167,34 @@ def stamp_of(program):
 
 def is_proved(program):
     """Whether the program was proved, and its module kept, and no crate has changed since."""
-    return retarget.module_of(program).is_file() and is_newest(stamp_of(program), [CRATES, *(TOP / "crates").rglob("*")])
+    parts = [path for part in repository.PARTS for path in (TOP / "crates").glob(f"*/{part}/**/*")]  # a folder is newer where a file is gone
+    return retarget.module_of(program).is_file() and is_newest(stamp_of(program), [repository.CRATES, *parts])
 
 
 def is_built(program):
     return is_proved(program) and is_newest(path_of(program), [stamp_of(program), *retarget.OWN])
 
 
-def proved(program):
-    """Proves the program and all that it rests on, and keeps its module, where that is still to be done."""
-    if is_proved(program):
+def proved(*programs):
+    """Proves programs and all that they rest on, and keeps their modules, where that is still to be done."""
+    wanted = [program for program in programs if not is_proved(program)]
+    if not wanted:
         return
     if not shutil.which("rt"):
         raise Failure("the Rattle toolchain is needed to build the program: no 'rt' on the PATH")
-    tell(f"building {program}: what it rests on is proved first, which takes a minute or two from nothing and seconds otherwise")
+    said = f"{wanted[0]}: what it rests" if len(wanted) == 1 else f"{len(wanted)} programs: what they rest"
+    tell(f"building {said} on is proved first, which takes some minutes from nothing and seconds otherwise")
     ROOM.mkdir(parents=True, exist_ok=True)
-    stamp_of(program).unlink(missing_ok=True)
+    for program in wanted:
+        stamp_of(program).unlink(missing_ok=True)
     began = time.time()
-    status = prove(program)
-    if status:
-        raise Failure(f"{program} could not be built ('rt check {program}' ended with {status}); {LOG.relative_to(TOP)} has what it said")
-    stamp_of(program).touch()
-    os.utime(stamp_of(program), (began, began))
+    failed = prove(wanted)
+    if failed:
+        crate, status = failed
+        raise Failure(f"{', '.join(wanted)} could not be built ({crate} is not proved: its command ended with {status}); {LOG.relative_to(TOP)} has what it said")
+    for program in wanted:
+        stamp_of(program).touch()
+        os.utime(stamp_of(program), (began, began))
     tell(f"proved in {time.time() - began:.0f} seconds")
 
 

@@ -1,40 +1,38 @@
 """The proved code for AArch64, x86-64 and WebAssembly: the LLVM module that the toolchain makes of it, compiled a second time.
 
-The toolchain compiles for x86-64 alone. Its back end makes one LLVM module of the proved code and hands it to its clang, which knows AArch64 too. `keeping`
-has rt run a clang that first keeps the module; `retargeted` changes what names the processor in it, and nothing else; `gathered` makes one constant of the
-stores that build a long constant array; `apart` keeps a large function from being compiled into each of its callers; `compiled` has the same clang compile it.
-What is proved is the code before the back end, on either processor alike.
+The toolchain compiles for Linux alone, and to a WebAssembly whose pointers have 64 bits. Its back end makes one LLVM module of the proved code and hands it to its
+clang. `keeping` has rattle run a clang that first keeps the module that is made for x86-64; `retargeted` changes what names the processor in it, and nothing else;
+`gathered` makes one constant of the stores that build a long constant array; `apart` keeps a large function from being compiled into each of its callers; `compiled`
+has the same clang compile it. What is proved is the code before the back end, on each processor alike.
 
 Both processors are little-endian, with the same integers and alignments and pointers of 64 bits, so that whatever the back end worked out for one holds for the
 other. One thing differs: a struct of more than 16 bytes is returned through a pointer, which x86-64 has as the first argument and AArch64 in a register of its
 own. The module has it as the first argument, and returns it; LLVM takes it for the result's where it is marked `sret`.
 
-WebAssembly is little-endian with the same integers and alignments, but its pointers have 32 bits. The module counts bytes by itself: every address is a pointer and a count of bytes, and a
-pointer in memory has eight bytes of room, of which four are used. `narrow` refuses a module in which a pointer is taken for a number, or an address is counted in anything but bytes. Lengths keep
-their 64 bits.
+WebAssembly is little-endian with the same integers and alignments, but its pointers have 32 bits here, which every browser knows. The module counts bytes by itself:
+every address is a pointer and a count of bytes, and a pointer in memory has eight bytes of room, of which four are used. `narrow` refuses a module in which a pointer
+is taken for a number, or an address is counted in anything but bytes. Lengths keep their 64 bits.
 
-A module that looks otherwise than expected ends the tool: nothing is compiled of what is not understood.
-
-    tools/retarget.py FOLDER       makes a toolchain that keeps the module of each crate that rt compiles with it in the folder, and prints its home, for RATTLE_HOME. Whoever asked removes it"""
+A module that looks otherwise than expected ends the tool: nothing is compiled of what is not understood."""
 import atexit
 import hashlib
-import os
 import platform
 import re
 import shutil
-import subprocess
-import sys
 import tempfile
 from pathlib import Path
 
-TOP = Path(__file__).resolve().parent.parent
+import repository
+from repository import Fault, run
+
+TOP = repository.TOP
 ROOM = TOP / "target" / "retarget"
 HEADER = TOP / "include" / "esr.h"
 MEMORY = TOP / "examples" / "memory.c"
 COMMAND = TOP / "tools" / "command.c"
 HELP = TOP / "tools" / "command.txt"
 # What the command is made of, besides the proved programs.
-OWN = (Path(__file__), COMMAND, HELP, MEMORY, TOP / "examples" / "linux.h")
+OWN = (Path(__file__), Path(repository.__file__), COMMAND, HELP, MEMORY, TOP / "examples" / "linux.h")
 # Of the C functions and of the command. The first number rises with a change of include/esr.h that a caller has to follow, once it is 1.
 RELEASE = "0.1.0"
 MACHINES = ("x86_64", "aarch64")
@@ -46,11 +44,16 @@ WASM = ROOM / BROWSER / "esr.wasm"
 # What the module may say of its processor, of its functions and of what it asks for.
 LAYOUT = "e-m:e-p270:32:32-p271:32:32-p272:64:64-i64:64-i128:128-f80:128-n8:16:32:64-S128"
 TRIPLE = "x86_64-unknown-linux-gnu"
-ATTRIBUTES = {"nounwind", "nobuiltin", "nocallback", "nofree", "willreturn", "cold", "noreturn", '"probe-stack"="inline-asm"', '"target-cpu"="x86-64"'}
+# Attributes of the one processor: the oldest of its kind, and how it probes a stack that grows by much.
+CPU = "x86-64"
+OF_X86_64 = ('"probe-stack"="inline-asm"', '"stack-probe-size"="3072"', f'"target-cpu"="{CPU}"')
+ATTRIBUTES = {"nounwind", "nobuiltin", "nocallback", "nofree", "nosync", "speculatable", "willreturn", "cold", "noreturn", "noinline", "alwaysinline", *OF_X86_64}
 EFFECTS = re.compile(r"memory\([a-z: ,]+\)")
-# Attributes of the one processor: its name, and how it probes a stack that grows by more than a page.
-OF_X86_64 = ('"probe-stack"="inline-asm"', '"target-cpu"="x86-64"')
-DECLARED = {"llvm.memmove.p0.p0.i64", "llvm.memcpy.p0.p0.i64", "llvm.memset.p0.i64", "llvm.trap", "read", "write", "rattle_arg", "rattle_set_errno"}
+DECLARED = {"llvm.memmove.p0.p0.i64", "llvm.memcpy.p0.p0.i64", "llvm.memset.p0.i64", "llvm.trap"}
+DECLARED |= {"read", "write", "rattle_arg", "rattle_errno", "rattle_set_errno", "__sysv_signal"}
+# What LLVM knows of integers, which is the same on each processor.
+OF_INTEGERS = re.compile(r"llvm\.(?:abs|bitreverse|bswap|ctlz|ctpop|cttz|fshl|fshr|[su](?:max|min)|[su](?:add|sub)\.sat|[su](?:add|sub|mul)\.with\.overflow)\.i(?:8|16|32|64)")
+FLOATS = re.compile(r"\b(?:half|bfloat|float|double|fp128|x86_fp80)\b")
 ARGUMENT = r"(?:i8|i16|i64|ptr) noundef %a\d+"
 EXPORTED = re.compile(rf"define noundef ptr @(\w+)\(ptr noundef %a0((?:, {ARGUMENT})*)\) #\d+ \{{")
 MAIN = re.compile(r"define i32 @main\(\) #\d+ \{")
@@ -72,8 +75,15 @@ BROWSERS = ("--target=wasm32-unknown-unknown", "-mbulk-memory")
 MEMORY_SIZE = 2 << 20
 WASM_STACK = 64 << 10
 LINUX = {machine: (f"--target={machine}-unknown-linux-gnu", "-fPIE") for machine in MACHINES}
-# As the toolchain has them for x86-64.
-OPTIONS = ("-O3", "-ffunction-sections", "-fdata-sections", "-mllvm", "-trap-unreachable", "-mllvm", "-no-trap-after-noreturn", "--no-default-config", "-Werror")
+# As the toolchain has them, for every processor; those that keep clang from known faults among them.
+OPTIONS = ("-O3", "-ffunction-sections", "-fdata-sections", "--no-default-config", "-no-canonical-prefixes", "-fintegrated-cc1", "-fno-crash-diagnostics", "-Werror")
+OPTIONS += tuple(word for option in ("-trap-unreachable", "-disable-machine-licm", "-disable-postra-machine-licm", "-sink-common-insts=false") for word in ("-mllvm", option))
+# And for one processor.
+OPTIONS_FOR = {
+    "x86_64": ("-march=x86-64", "-mllvm", "-no-trap-after-noreturn", "-mllvm", "-no-x86-call-frame-opt"),
+    "aarch64": ("-march=armv8-a", "-mllvm", "-no-trap-after-noreturn", "-mllvm", "-aarch64-load-store-renaming=false"),
+    BROWSER: (),
+}
 
 
 # How C is compiled. The toolchain's compiler comes without headers, so stddef.h and stdint.h are written from the types that it defines by itself.
@@ -98,32 +108,12 @@ typedef __UINT64_TYPE__ uint64_t;
 """
 
 
-class Fault(Exception):
-    """What does not hold, or is not there."""
-
-
-def run(*command, **more):
-    done = subprocess.run([str(word) for word in command], capture_output=True, check=False, **more)
-    if done.returncode != 0:
-        said = (done.stdout + done.stderr).decode(errors="replace")
-        raise Fault(f"{Path(str(command[0])).name} ended with {done.returncode}:\n{said}")
-    return done.stdout
-
-
 # ---- the toolchain
 
 
-def kit():
-    """The folder of the toolchain."""
-    rt = shutil.which("rt")
-    if rt is None:
-        raise Fault("there is no 'rt' on the PATH")
-    return Path(os.environ.get("RATTLE_HOME") or Path(rt).resolve().parent.parent)
-
-
 def toolchain():
-    """Where the toolchain has its compiler, linker and archiver for this machine."""
-    tools = kit() / "on" / platform.machine() / "toolchain" / "bin"
+    """Where the toolchain has its compiler, linker and archiver."""
+    tools = repository.kit() / "toolchain" / "bin"
     for name in ("clang", "ld.lld", "llvm-ar"):
         if not (tools / name).is_file():
             raise Fault(f"the toolchain has no {name} in {tools}")
@@ -134,8 +124,7 @@ def emulator(machine):
     """What stands before a program for Linux on this processor: nothing where it runs natively, and None where it cannot be run here."""
     if platform.machine() == machine:
         return []
-    own = toolchain() / f"qemu-{machine}"
-    found = own if own.is_file() else shutil.which(f"qemu-{machine}")
+    found = shutil.which(f"qemu-{machine}")
     return [found] if found else None
 
 
@@ -164,28 +153,22 @@ def linked(folder, target, *, but):
             (target / entry.name).symlink_to(entry)
 
 
-# The back end hands clang no variables, but its own command line has the name of the crate.
 KEEPING = """\
 #!/bin/sh
-if [ -f module.bc ]; then cp module.bc "{modules}/$(tr '\\0' '\\n' <"/proc/$PPID/cmdline" | sed -n '/^--crate-name$/{{n;p;q;}}').bc"; fi
+if [ -f module.bc ]; then cp module.bc "{module}"; fi
 exec "{clang}" "$@"
 """
 
 
-def shadow(modules):
-    """The toolchain again, as links, with a clang that first copies the module that it is handed into this folder, under the name of its crate. It lies where everyone can reach it,
-    and the repository may not: as root, rt runs a program as nobody."""
-    room, machine = Path(tempfile.mkdtemp(prefix="kit-")), platform.machine()
+def shadow(module):
+    """The toolchain again, as links, with a clang that first copies the module that it is handed to this file."""
+    room, real = Path(tempfile.mkdtemp(prefix="kit-")), repository.kit() / "toolchain"
     SHADOWS.append(room)
-    room.chmod(0o755)
-    own = room / "kit"
-    real = kit() / "on" / machine / "toolchain"
-    linked(kit(), own, but="on")
-    linked(real.parent, own / "on" / machine, but="toolchain")
-    linked(real, own / "on" / machine / "toolchain", but="bin")
-    linked(real / "bin", own / "on" / machine / "toolchain" / "bin", but="clang")
-    clang = own / "on" / machine / "toolchain" / "bin" / "clang"
-    clang.write_text(KEEPING.format(modules=modules, clang=real / "bin" / "clang"))
+    own = room / "toolchain"
+    linked(real, own, but="bin")
+    linked(real / "bin", own / "bin", but="clang")
+    clang = own / "bin" / "clang"
+    clang.write_text(KEEPING.format(module=module, clang=real / "bin" / "clang"))
     clang.chmod(0o755)
     return own
 
@@ -195,17 +178,17 @@ def module_of(name):
     return ROOM / f"{name}.bc"
 
 
-def keeping(name):
-    """The variables of a command of rt that compiles a crate, so that its module is kept."""
+def keeping(name, *kind):
+    """The command that proves a crate, over the libraries below it, and compiles it so that its module is kept."""
     module_of(name).parent.mkdir(parents=True, exist_ok=True)
     module_of(name).unlink(missing_ok=True)
-    return {"RATTLE_HOME": str(shadow(ROOM))}
+    return [*repository.building(name, *kind, f"--cpu={CPU}"), "--toolchain", shadow(module_of(name)), "-o", ROOM / f"{name}.o"]
 
 
 def kept(name):
     """The module of a crate that was compiled so."""
     if not module_of(name).is_file():
-        raise Fault(f"rt handed clang no module of {name}: the toolchain compiles in another way than is known here")
+        raise Fault(f"rattle handed clang no module of {name}: the toolchain compiles in another way than is known here")
     return module_of(name)
 
 
@@ -224,6 +207,11 @@ def expect(holds, what):
         raise Fault(f"the module of the toolchain looks otherwise than expected: {what}. Nothing was compiled of it")
 
 
+def without_texts(text):
+    """The module without its texts and the names in quotes, which may say anything."""
+    return re.sub(r'"[^"\n]*"', "", text)
+
+
 def understood(text):
     """Refuses a module that says something unknown of its processor, its functions or what it asks for."""
     expect(re.findall(r'^target datalayout = "(.*)"$', text, re.M) == [LAYOUT], "its data layout")
@@ -232,8 +220,10 @@ def understood(text):
         unknown = set(EFFECTS.sub("", group).split()) - ATTRIBUTES
         expect(not unknown, f"the attributes {sorted(unknown)}")
     unknown = set(re.findall(r'^declare [^@]*@"?([\w.]+)', text, re.M)) - DECLARED
+    unknown = {name for name in unknown if not OF_INTEGERS.fullmatch(name)}
     expect(not unknown, f"it asks for {sorted(unknown)}")
     expect(not re.search(r"^module asm|\basm sideeffect", text, re.M), "it has assembly")
+    expect(not FLOATS.search(without_texts(text)), "it has numbers with a fraction, of whose code for AArch64 the toolchain takes care by itself")
 
 
 def exported(line, sizes):
@@ -354,25 +344,11 @@ def compiled(module, machine, text, options, tools):
     """The object file of a module for a processor."""
     source, target = (module.with_suffix(f".{machine}.{kind}") for kind in ("ll", "o"))
     source.write_text(text)
-    run(tools / "clang", *options, *OPTIONS, "-c", "-x", "ir", source, "-o", target)
+    run(tools / "clang", *options, *OPTIONS, *OPTIONS_FOR[machine], "-c", "-x", "ir", source, "-o", target)
     return target
 
 
 # ---- what was proved
-
-
-def sources():
-    """The sha256 of what is proved: crates.txt, and the code, definitions and proofs of each crate."""
-    digest = hashlib.sha256()
-    crates = TOP / "crates"
-    for path in [TOP / "crates.txt", *sorted(path for part in ("src", "specs", "proofs") for path in crates.glob(f"*/{part}/**/*") if path.is_file())]:
-        data = path.read_bytes()
-        digest.update(f"{path.relative_to(TOP)}\0{len(data)}\0".encode() + data)
-    return digest.hexdigest()
-
-
-def prover():
-    return run("rt", "version").decode().strip()
 
 
 def version(names):
@@ -381,8 +357,8 @@ def version(names):
 esr {RELEASE}: Arm exception syndromes, decoded as google/aarch64-esr-decoder does
 proved: {", ".join(sorted(names)) or "nothing yet"}{", and all that they rest on" if names else ""}
 proved of them: for every input, what a program says of a line is what its definitions say; docs/ASSURANCE.md tells what that takes for granted
-prover: {prover()}
-sources: sha256 {sources()} (crates.txt; src, specs and proofs of each crate)
+prover: {repository.prover()}
+sources: sha256 {repository.sources()} (crates.txt; src, specs and proofs of each crate)
 """
 
 
@@ -409,7 +385,8 @@ def archived(name, sizes, paths, browser=None):
     """Proves a library of C functions and writes its archive to the path of each processor, from one module, and that for a browser where a path is given. Sizes has the bytes
     of the struct that each returns."""
     tools = toolchain()
-    run("rt", "staticlib", name, cwd=TOP, env={**os.environ, **keeping(name)})
+    repository.below(name)
+    run(*keeping(name, "--crate-type", "staticlib"), cwd=repository.folder(name))
     module = kept(name)
     text = text_of(module, tools)
     understood(text)
@@ -425,7 +402,7 @@ def archived(name, sizes, paths, browser=None):
 def archives():
     """Writes the archive of the C functions for x86-64, and for AArch64, bare metal or Linux, and their module for a browser. Those of the same sources, prover and tool are
     left as they are."""
-    made_of = "\n".join((sources(), prover(), hashlib.sha256(Path(__file__).read_bytes() + HEADER.read_bytes()).hexdigest()))
+    made_of = "\n".join((repository.sources(), repository.prover(), hashlib.sha256(Path(__file__).read_bytes() + HEADER.read_bytes()).hexdigest()))
     stamp = ROOM / "archives.of"
     if stamp.is_file() and stamp.read_text() == made_of and all(path.is_file() for path in (*ARCHIVES.values(), WASM)):
         return
@@ -480,8 +457,3 @@ def of_vectors(word):
     28, is x111 for scalar floating-point and Advanced SIMD and 0010 for SVE; in loads and stores, x1x0, bit 26 says so; SME has 0000 and bit 31."""
     op0 = word >> 25 & 0xF
     return op0 & 0x7 == 0x7 or op0 == 0x2 or (op0 & 0x5 == 0x4 and bool(word >> 26 & 1)) or (op0 == 0 and bool(word >> 31))
-
-
-if __name__ == "__main__":
-    print(shadow(Path(sys.argv[1]).resolve()))
-    SHADOWS.clear()  # it stays
