@@ -2,6 +2,7 @@
 // and width of the field that it names.
 // `include/esr.h` declares them.
 #![tactic(auto)]
+
 ghost use Rattle.std.specs.Prelude.{◌≤◌, length, cond, ◌≡◌};
 ghost use Rattle.capi.specs.Answers.{filled_of, phrase_answer};
 ghost use Rattle.capi.specs.Buffers.{front};

@@ -1,5 +1,6 @@
 // What `esr diff` says of two values, byte for byte, in a lent buffer from an offset on: the records of both side by side, or why a value is refused (#114).
 #![tactic(auto)]
+
 ghost use Rattle.std.specs.Prelude.{◌≤◌, drop, length, ◌≡◌};
 ghost use Rattle.buffer.specs.Appending.{Appends};
 ghost use Rattle.diff_reply.specs.Promises.{DiffReply, NotTwo};

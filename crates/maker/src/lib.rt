@@ -1,5 +1,6 @@
 // The maker: the value of a class, an IL, an ISS2 and a list of leaf values for ISS from high to low, or why there is none (#106).
 #![tactic(auto)]
+
 ghost use Rattle.std.specs.Prelude.{◌≡◌, ◌%◌, ◌^◌, ◌<◌, take};
 ghost use Rattle.layout_sets.specs.Fitting.{answers, is_row, leaf_at};
 ghost use Rattle.layout_sets.specs.Outcomes.{index_of};

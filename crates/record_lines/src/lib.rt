@@ -1,5 +1,6 @@
 // The records of a value for machines, a line for each, and the bytes of an entry's body, in a lent buffer from an offset on.
 #![tactic(auto)]
+
 ghost use Rattle.buffer.specs.Appending.{Appends};
 ghost use Rattle.buffer.specs.InOrder.{in_order};
 ghost use Rattle.buffer.specs.Lent.{Lent};

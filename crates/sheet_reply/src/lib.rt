@@ -1,5 +1,6 @@
 // What `esr sheet` writes (#112): the standard sheet in lines to translate, a sheet made of such lines, one at a time, and why a line is refused.
 #![tactic(auto)]
+
 ghost use Rattle.std.specs.Prelude.{◌-◌, ◌≤◌, drop, length};
 ghost use Rattle.buffer.specs.Appending.{Appends};
 ghost use Rattle.phrases.specs.Writing.{phrase_bytes};

@@ -1,5 +1,6 @@
 // Strict reading (#110): the ordinary decoder's answer, or what the manual's stricter view refuses of a value that the ordinary decoder accepts.
 #![tactic(auto)]
+
 ghost use Rattle.std.specs.Prelude.{◌≤◌, ◌&&◌, ◌≡◌};
 ghost use Rattle.records.specs.Sets.{list_of, set_room};
 ghost use Rattle.strict.specs.Code.{fails_as, is_of_as, line_at, refusal_as};

@@ -1,5 +1,6 @@
 // Counts a run of values: those that are accepted by class, in a lent table, and those that are refused by the number of the refusal (#101).
 #![tactic(auto)]
+
 ghost use Rattle.std.specs.Prelude.{◌+◌, ◌^◌, ◌<◌, get_or, length, replicate, set, ◌≡◌};
 ghost use Rattle.survey.specs.Promises.{OrdinaryCounts, Surveyed};
 ghost use Rattle.survey.specs.Surveys.{class_counts, is_of_class, is_refused_at, nothing, refused_counts};

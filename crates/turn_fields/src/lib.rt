@@ -1,5 +1,6 @@
 // The fields of a value that can be set, and which of them a word means: by its name, or by the number of its lowest bit (#114).
 #![tactic(auto)]
+
 ghost use Rattle.std.specs.Prelude.{◌≤◌, ◌≡◌};
 ghost use Rattle.buffer.specs.Lent.{part_in};
 ghost use Rattle.texts.specs.Pool.{bytes_at};

@@ -1,6 +1,7 @@
 // Walks over a fault block: how many entries it holds and how many of their values decode, what was skipped from each to the next, and where and
 // why the walk ends.
 #![tactic(auto)]
+
 ghost use Rattle.std.specs.Prelude.{◌≡◌, ◌-◌, ◌≤◌, ◌++◌, length, drop, if◌then◌else◌};
 ghost use Rattle.walk.specs.Promises.{BlockWalked};
 ghost use Rattle.walk.specs.Walks.{decoded_in, decodes, end_refusal, entries_of, over, refusing, skipped, steps_in};

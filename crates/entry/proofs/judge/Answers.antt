@@ -3,7 +3,13 @@
 use mathlib.Core.Path.{sym}
 use native.Mathlib.Omega.{arith}
 use Rattle.entry.proofs.Laws.{
-  part-below, judged-none, judged-zero, judged-short, judged_version, judged-long, judged-sound,
+  part-below,
+  judged-none,
+  judged-zero,
+  judged-short,
+  judged_version,
+  judged-long,
+  judged-sound,
 }
 use Rattle.entry.proofs.judge.Goals as goal
 

@@ -23,8 +23,7 @@ returns-then-not-may_be c =
 pub loop-x-preserved : goal.loop-x-preserved
 loop-x-preserved c =
     let a = c.args in
-    let f = may_be a.number a.iss a.index in
-    (
+    let f = may_be a.number a.iss a.index in (
       omega (arith, c.loop-x-test.true),
       one_below f c.loop-x.x c.loop-x.invariant.1 (sym c.may_be.ensures ∙ c.if-not-may_be.false),
     )

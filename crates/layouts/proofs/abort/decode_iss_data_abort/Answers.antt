@@ -103,7 +103,7 @@ returns-then-is_external_abort_fsc c =
       passes-bit v 24 _ false c.as_bit.ensures c.if-as_bit.false,
       (
         passes-external v _ true c.field-status.ensures
-          (sym c.if-is_external_abort_fsc.true ∙ c.is_external_abort_fsc.ensures),
+            (sym c.if-is_external_abort_fsc.true ∙ c.is_external_abort_fsc.ensures),
         (
           fails-one v 0 6 0x10 (λ e. c.if-status-eq16-2.false (c.field-status.ensures ∙ e)),
           (
@@ -122,7 +122,7 @@ returns c =
       passes-bit v 24 _ false c.as_bit.ensures c.if-as_bit.false,
       (
         passes-external v _ false c.field-status.ensures
-          (sym c.if-is_external_abort_fsc.false ∙ c.is_external_abort_fsc.ensures),
+            (sym c.if-is_external_abort_fsc.false ∙ c.is_external_abort_fsc.ensures),
         (
           fails-one v 0 6 0x10 (λ e. c.if-status-eq16-2.false (c.field-status.ensures ∙ e)),
           (

@@ -39,7 +39,7 @@ returns-then-is_external_abort_fsc c =
     let v : ℕ = c.args.iss in
     layout-at instruction_abort tests knows v (true ∷ false ∷ []) (
       passes-external v _ true c.field-status.ensures
-        (sym c.if-is_external_abort_fsc.true ∙ c.is_external_abort_fsc.ensures),
+          (sym c.if-is_external_abort_fsc.true ∙ c.is_external_abort_fsc.ensures),
       (
         fails-one v 0 6 0x10 (λ e. c.if-status-eq16.false (c.field-status.ensures ∙ e)),
         tt,
@@ -52,7 +52,7 @@ returns c =
     let v : ℕ = c.args.iss in
     layout-at instruction_abort tests knows v (false ∷ false ∷ []) (
       passes-external v _ false c.field-status.ensures
-        (sym c.if-is_external_abort_fsc.false ∙ c.is_external_abort_fsc.ensures),
+          (sym c.if-is_external_abort_fsc.false ∙ c.is_external_abort_fsc.ensures),
       (
         fails-one v 0 6 0x10 (λ e. c.if-status-eq16.false (c.field-status.ensures ∙ e)),
         tt,
