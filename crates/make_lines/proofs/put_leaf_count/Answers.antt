@@ -2,7 +2,6 @@
 use Rattle.buffer.proofs.Appending.{and_then}
 use Rattle.make_lines.proofs.Laws.{leaves-one, leaves-more}
 use Rattle.texts.specs.Pool.{bytes}
-use borrow.Author.Rules.{rules}
 use Rattle.make_lines.proofs.put_leaf_count.Goals as goal
 
 pub returns-then-count-eq1 : goal.returns-then-count-eq1

@@ -1,14 +1,9 @@
 -- The invariant: the lines of the leaves so far are what was put.
-use Prim.Native.Nat.{◌-◌, ◌≤◌}
 use mathlib.Core.Path.{◌≡◌, refl}
 use native.Mathlib.Omega.{arith}
-use lib.ListN.{length}
 use Rattle.buffer.proofs.Appending.{and_then, none, same_length}
-use Rattle.buffer.specs.Appending.{Appends}
 use Rattle.make_lines.proofs.Laws.{below_none, below_more}
-use Rattle.make_lines.specs.Below.{below}
 use Rattle.make_lines.specs.Help.{leaf_line}
-use borrow.Author.Rules.{rules}
 use Rattle.make_lines.proofs.put_leaves.Goals as goal
 
 pub loop-i-init : goal.loop-i-init
@@ -23,7 +18,8 @@ overflow_add-i c = omega (arith, c.loop-i-test.true, c.requires)
 pub loop-i-preserved : goal.loop-i-preserved
 loop-i-preserved c =
     let w = and_then c.loop-i.invariant.1 c.put_leaf-next.ensures in
-    (omega (arith, c.loop-i-test.true), rw (below_more (leaf_line c.args.number c.args.iss) c.loop-i.i) w, same_length w)
+    let line = leaf_line c.args.number c.args.iss in
+    (omega (arith, c.loop-i-test.true), rw (below_more line c.loop-i.i) w, same_length w)
 
 pub returns : goal.returns
 returns c =

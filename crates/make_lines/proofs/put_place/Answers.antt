@@ -2,7 +2,6 @@
 use Rattle.buffer.proofs.Appending.{and_then}
 use Rattle.make_lines.specs.Help.{place_part}
 use Rattle.texts.specs.Pool.{bytes}
-use borrow.Author.Rules.{rules}
 use Rattle.make_lines.proofs.put_place.Goals as goal
 
 pub returns : goal.returns

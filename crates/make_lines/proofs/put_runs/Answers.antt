@@ -1,15 +1,10 @@
 -- The invariant: the runs of the values so far are what was put.
-use Prim.Native.Nat.{◌-◌, ◌≤◌}
 use mathlib.Core.Path.{◌≡◌, refl}
 use native.Mathlib.Omega.{arith}
-use lib.ListN.{length}
 use Rattle.buffer.proofs.Appending.{and_then, none, same_length}
-use Rattle.buffer.specs.Appending.{Appends}
 use Rattle.leaf_values.specs.Values.{may_be}
 use Rattle.make_lines.proofs.Laws.{below_none, below_more}
-use Rattle.make_lines.specs.Below.{below}
 use Rattle.make_lines.specs.Help.{run_part}
-use borrow.Author.Rules.{rules}
 use Rattle.make_lines.proofs.put_runs.Goals as goal
 
 pub loop-x-init : goal.loop-x-init
@@ -24,7 +19,8 @@ overflow_add-x c = omega (arith, c.loop-x-test.true, c.requires)
 pub loop-x-preserved : goal.loop-x-preserved
 loop-x-preserved c =
     let w = and_then c.loop-x.invariant.1 c.put_run-next.ensures in
-    (omega (arith, c.loop-x-test.true), rw (below_more (run_part (may_be c.args.number c.args.iss c.args.index)) c.loop-x.x) w, same_length w)
+    let part = run_part (may_be c.args.number c.args.iss c.args.index) in
+    (omega (arith, c.loop-x-test.true), rw (below_more part c.loop-x.x) w, same_length w)
 
 pub returns : goal.returns
 returns c =

@@ -4,7 +4,6 @@ use Rattle.buffer.proofs.Appending.{and_then}
 use Rattle.leaf_values.proofs.Laws.{few-leaves}
 use Rattle.make_lines.specs.Help.{set_text}
 use Rattle.texts.specs.Pool.{bytes}
-use borrow.Author.Rules.{rules}
 use Rattle.make_lines.proofs.put_set.Goals as goal
 
 pub put_leaves-requires : goal.put_leaves-requires
@@ -13,4 +12,5 @@ put_leaves-requires c = omega (arith, c.leaf_count-count.ensures, few-leaves c.a
 pub returns : goal.returns
 unfolding set_text bytes
 returns c =
-    rw (← c.leaf_count-count.ensures) (and_then (and_then c.put_leaf_count-next.ensures c.put_bytes-next.ensures) c.put_leaves.ensures)
+    rw (← c.leaf_count-count.ensures)
+    (and_then (and_then c.put_leaf_count-next.ensures c.put_bytes-next.ensures) c.put_leaves.ensures)

@@ -3,7 +3,6 @@ use mathlib.Core.Path.{sym, ◌∙◌}
 use native.Mathlib.Omega.{arith}
 use Rattle.buffer.proofs.Appending.{none}
 use Rattle.make_lines.proofs.Laws.{set_seen, set_new}
-use borrow.Author.Rules.{rules}
 use Rattle.make_lines.proofs.put_set_at.Goals as goal
 
 pub returns-then-is_seen : goal.returns-then-is_seen
@@ -12,4 +11,5 @@ returns-then-is_seen c =
 
 pub returns : goal.returns
 returns c =
-    rw (set_new c.args.number c.args.k (sym c.is_seen.ensures ∙ c.if-is_seen.false), ← c.outcome.ensures) c.put_set.ensures
+    rw (set_new c.args.number c.args.k (sym c.is_seen.ensures ∙ c.if-is_seen.false), ← c.outcome.ensures)
+    c.put_set.ensures

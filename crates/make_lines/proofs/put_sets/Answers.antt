@@ -1,14 +1,9 @@
 -- The invariant: the sets of the outcomes so far are what was put.
-use Prim.Native.Nat.{◌-◌, ◌≤◌}
 use mathlib.Core.Path.{◌≡◌, refl}
 use native.Mathlib.Omega.{arith}
-use lib.ListN.{length}
 use Rattle.buffer.proofs.Appending.{and_then, none, same_length}
-use Rattle.buffer.specs.Appending.{Appends}
 use Rattle.make_lines.proofs.Laws.{below_none, below_more}
-use Rattle.make_lines.specs.Below.{below}
 use Rattle.make_lines.specs.Help.{set_at, sets_text}
-use borrow.Author.Rules.{rules}
 use Rattle.make_lines.proofs.put_sets.Goals as goal
 
 pub loop-k-init : goal.loop-k-init

@@ -2,7 +2,6 @@
 use Rattle.buffer.proofs.Appending.{and_then}
 use Rattle.make_lines.proofs.Laws.{width_one, width-more}
 use Rattle.texts.specs.Pool.{bytes}
-use borrow.Author.Rules.{rules}
 use Rattle.make_lines.proofs.put_width.Goals as goal
 
 pub returns-then-width-eq1 : goal.returns-then-width-eq1

@@ -2,7 +2,6 @@
 use mathlib.Core.Path.{◌∙◌}
 use Rattle.leaf_values.specs.Values.{may_be}
 use Rattle.make_lines.proofs.Laws.{before-none, before-some}
-use borrow.Author.Rules.{rules}
 use Rattle.make_lines.proofs.was.Goals as goal
 
 pub returns-then-x-eq0 : goal.returns-then-x-eq0
