@@ -72,6 +72,7 @@ fn put_bits(buf: &mut [u8], at: usize, item: Record) -> usize
     put_number(buf, next, Base::Hex, item.value)
 }
 
+#[tactic(auto, unfolding(crate::specs::Lines::mark_part, texts::specs::Pool::bytes))]
 fn put_mark(buf: &mut [u8], at: usize, mark: Mark) -> usize
     ensures { Appends (mark_part mark) (at, buf.old) (result, buf.new) }
 {
