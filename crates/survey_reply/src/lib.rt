@@ -1,5 +1,6 @@
 // What a survey says, a line to a place of its totals, and what such a line says when it is read back; sums of what several surveys counted (#101).
 #![tactic(auto)]
+
 ghost use Rattle.std.specs.Prelude.{◌+◌, ◌^◌, ◌<◌, ◌≤◌, get_or, length, ◌&&◌, ◌≡◌};
 ghost use Rattle.buffer.specs.Appending.{Appends};
 ghost use Rattle.number.specs.Numbers.{starts_with};
