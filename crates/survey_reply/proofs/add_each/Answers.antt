@@ -15,23 +15,25 @@ pub loop-i-init : goal.loop-i-init
 loop-i-init c =
     let a = c.args in (ap (λ (k : ℕ). add_each a.totals.now k a.counts.now) (sym (add-zero a.from)), refl)
 
+pub overflow_cast-counts : goal.overflow_cast-counts
+overflow_cast-counts c = omega (arith, c.type_inv.counts c.loop-i.i)
+
 pub loop-i-preserved : goal.loop-i-preserved
 loop-i-preserved c =
     let a = c.args in
-    let l = c.loop-i in
-    let at = a.from + l.i in
-    let is = c.add_count.ensures in
-    let turn =
-    each_turn l.totals at a.counts.now l.i l.all (a.from + (l.i + 1)) is (omega arith) (search rules) in (
-      l.invariant.0 ∙ turn ∙ rw c.both-all.ensures,
+    let i = c.loop-i.i in
+    let is = c.add_count.ensures in (
+      c.loop-i.invariant.0
+          ∙ each_turn c.loop-i.totals (a.from + i) a.counts.now i c.loop-i.all (a.from + (i + 1)) is (omega arith)
+          (search rules)
+          ∙ rw c.both-all.ensures,
       ap (λ (r : Bool × List ℕ). length r.1) is
-          ∙ same-places l.totals at (get_or a.counts.now l.i 0)
-          ∙ l.invariant.1,
+          ∙ same-places c.loop-i.totals (a.from + i) (get_or a.counts.now i 0)
+          ∙ c.loop-i.invariant.1,
     )
 
 pub returns : goal.returns
 returns c =
     let a = c.args in
-    let l = c.loop-i in
-    let done = each-done l.totals (a.from + l.i) a.counts.now l.i (omega arith) in
-    sym (l.invariant.0 ∙ rw (done, and_all l.all))
+    sym (c.loop-i.invariant.0
+    ∙ rw (each-done c.loop-i.totals (a.from + c.loop-i.i) a.counts.now c.loop-i.i (omega arith), and_all c.loop-i.all))

@@ -8,8 +8,12 @@ use Rattle.survey_reply.proofs.add_each.Given as goal
 
 abbrev pub invariant-loop-i : goal.invariant-loop-i
 invariant-loop-i l =
-    let left = add_each l.totals (l.from + l.i) (drop l.i l.counts) in
-    (add_each l.initial.totals l.from l.counts ≡ (l.all && left.0, left.1)) × (length l.totals ≡ length l.initial.totals)
+    (add_each l.initial.totals l.from l.counts
+    ≡ (
+      l.all && (add_each l.totals (l.from + l.i) (drop l.i l.counts)).0,
+      (add_each l.totals (l.from + l.i) (drop l.i l.counts)).1,
+    ))
+    × (length l.totals ≡ length l.initial.totals)
 
 abbrev pub decreases-loop-i : goal.decreases-loop-i
 decreases-loop-i l = length l.counts - l.i

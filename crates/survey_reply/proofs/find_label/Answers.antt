@@ -1,5 +1,4 @@
--- The invariant says what is left: the answer is among the places from this one on. Of each the label and the space are
--- put, which fit the buffer.
+-- The invariant says what is left: the answer is among the places from this one on. Of each the label and the space are put, which fit the buffer.
 use Prim.Native.Nat.{ℕ}
 use mathlib.Core.Path.{◌≡◌, refl, sym, ap, ◌∙◌}
 use mathlib.Core.Bool.{false, true}
@@ -7,7 +6,8 @@ use mathlib.Core.List.{List}
 use native.Mathlib.Omega.{arith}
 use Rattle.buffer.proofs.Appending.{same_length}
 use Rattle.number.specs.Numbers.{starts_with}
-use Rattle.survey_reply.proofs.Laws.{begun-long, front-next, front_put, front-within, place_here, place-later, place_none}
+use Rattle.survey_reply.proofs.Laws.{begun-long, front-next, front_put, front-within}
+use Rattle.survey_reply.proofs.Laws.{place_here, place-later, place_none}
 use Rattle.survey_reply.specs.Replies.{front}
 use borrow.Author.Rules.{rules}
 use Rattle.survey_reply.proofs.find_label.Goals as goal
@@ -17,41 +17,44 @@ loop-place-init c = (refl, omega arith, refl)
 
 pub slice_bounds-begins-end : goal.slice_bounds-begins-end
 slice_bounds-begins-end c =
-    let l = c.loop-place in
-    let put = c.put_front-next.ensures in
-    omega (arith, front-within l.place (search rules) l.invariant.0 put, same_length put)
+    omega (
+      arith,
+      front-within c.loop-place.place (search rules) c.loop-place.invariant.0 c.put_front-next.ensures,
+      same_length c.put_front-next.ensures,
+    )
 
 pub returns-then-begins : goal.returns-then-begins
 returns-then-begins c =
     let line = c.args.line.now in
-    let l = c.loop-place in
-    let place = l.place in
-    let put = c.put_front-next.ensures in
+    let place = c.loop-place.place in
+    let put = front_put place (search rules) c.loop-place.invariant.0 c.put_front-next.ensures in
     let is : starts_with (front place) line ≡ true =
-    sym (ap (λ (t : List ℕ). starts_with t line) (front_put place (search rules) l.invariant.0 put))
-    ∙ sym c.begins.ensures
-    ∙ c.if-begins.true in
-    let there = l.invariant.2 ∙ place_here line place (search rules) is in (
+    sym (ap (λ (t : List ℕ). starts_with t line) put) ∙ sym c.begins.ensures ∙ c.if-begins.true in
+    let there = c.loop-place.invariant.2 ∙ place_here line place (search rules) is in (
       sym there,
-      λ h.
-          let next = front-next place h l.invariant.0 put in
-          (next, omega (arith, next, begun-long (front place) line is)),
+      λ h. (
+        front-next place h c.loop-place.invariant.0 c.put_front-next.ensures,
+        omega (
+          arith,
+          front-next place h c.loop-place.invariant.0 c.put_front-next.ensures,
+          begun-long (front place) line is,
+        ),
+      ),
     )
 
 pub loop-place-preserved : goal.loop-place-preserved
 loop-place-preserved c =
     let line = c.args.line.now in
-    let l = c.loop-place in
-    let place = l.place in
-    let put = c.put_front-next.ensures in
+    let place = c.loop-place.place in
+    let put = front_put place (search rules) c.loop-place.invariant.0 c.put_front-next.ensures in
     let is : starts_with (front place) line ≡ false =
-    sym (ap (λ (t : List ℕ). starts_with t line) (front_put place (search rules) l.invariant.0 put))
-    ∙ sym c.begins.ensures
-    ∙ c.if-begins.false in
-    (same_length put ∙ l.invariant.0, omega arith, l.invariant.2 ∙ place-later line place (search rules) is)
+    sym (ap (λ (t : List ℕ). starts_with t line) put) ∙ sym c.begins.ensures ∙ c.if-begins.false in (
+      same_length c.put_front-next.ensures ∙ c.loop-place.invariant.0,
+      omega arith,
+      c.loop-place.invariant.2 ∙ place-later line place (search rules) is,
+    )
 
 pub returns : goal.returns
 returns c =
     let line = c.args.line.now in
-    let l = c.loop-place in
-    (sym (l.invariant.2 ∙ place_none line l.place (omega arith)), λ h. absurd (omega arith))
+    (sym (c.loop-place.invariant.2 ∙ place_none line c.loop-place.place (omega arith)), λ h. absurd (omega arith))

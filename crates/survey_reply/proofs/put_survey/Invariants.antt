@@ -7,8 +7,8 @@ use Rattle.survey_reply.specs.Replies.{said_from}
 use Rattle.survey_reply.proofs.put_survey.Given as goal
 
 abbrev pub invariant-loop-place : goal.invariant-loop-place
-invariant-loop-place l =
-    (l.place ≤ 74) × Appends (said_from l.all l.totals 0 l.place) (l.at, l.initial.buf) (l.next, l.buf)
+invariant-loop-place l = (l.place ≤ 74)
+    × Appends (said_from l.all l.totals 0 l.place) (l.at, l.initial.buf) (l.next, l.buf)
     × (length l.buf ≡ length l.initial.buf)
 
 abbrev pub decreases-loop-place : goal.decreases-loop-place

@@ -14,8 +14,8 @@ pub returns-then-found-lt-PLACES : goal.returns-then-found-lt-PLACES
 returns-then-found-lt-PLACES c =
     let line = c.args.line.now in
     let l = c.find_label-found.ensures in
-    let below = c.if-found-lt-PLACES.true in
-    c.count_from.ensures ∙ found-read line l.0 below (l.1 below).0 c.parse_number.ensures
+    c.count_from.ensures
+    ∙ found-read line l.0 c.if-found-lt-PLACES.true (l.1 c.if-found-lt-PLACES.true).0 c.parse_number.ensures
 
 pub returns : goal.returns
 returns c =
