@@ -1,5 +1,6 @@
 // The standard sheet in lines to translate, a code and its text to a line, and such a line read back as a phrase (#112).
 #![tactic(auto)]
+
 ghost use Rattle.std.specs.Prelude.{◌≤◌, length, ◌≡◌};
 ghost use Rattle.sheet_lines.specs.Lines.{faulty as faulty_of, text_start};
 ghost use Rattle.sheet_lines.specs.Promises.{CodeLinePut, LineTaken};
