@@ -11,6 +11,7 @@ Edit = namedtuple("Edit", "crate name what pairs file")  # file: the path of its
 FUNCTION = re.compile(r"\s*(?:pub(?:\(crate\))? )?(?:extern \"C\" )?fn (\w+)")
 CONSTANT = re.compile(r"\s*(?:pub(?:\(crate\))? )?const (\w+)")
 OTHER = re.compile(r"(?:pub )?(?:struct|enum|use|ghost use|mod|impl)\b")
+ATTRIBUTES = re.compile(r"(?:\s*#\[(?:[^\[\]]|\[[^\[\]]*\])*\]\n)+")
 
 
 def parts(file, text):
@@ -58,6 +59,14 @@ def edits(root, crate="*"):
 Item = namedtuple("Item", "kind name line text")  # line: the number of its first line
 
 
+def attributes_above(lines):
+    """How many of the last lines are attributes, which belong to what follows."""
+    for count in range(len(lines), 0, -1):
+        if lines[-count].lstrip().startswith("#[") and ATTRIBUTES.fullmatch("".join(lines[-count:])):
+            return count
+    return 0
+
+
 def items(crate, source, path):
     """The functions and constants of a file of code, by the names that the prover has for them, with what stands between."""
     module = [] if path.stem in ("lib", "main") else list(path.relative_to(source).with_suffix("").parts)
@@ -75,8 +84,9 @@ def items(crate, source, path):
         elif OTHER.match(line):
             begun = "", ""
         if begun:
-            yield Item(kind, name, first, "".join(gathered))
-            (kind, name), first, gathered = begun, number, []
+            above = len(gathered) - attributes_above(gathered)
+            yield Item(kind, name, first, "".join(gathered[:above]))
+            (kind, name), first, gathered = begun, number - len(gathered[above:]), gathered[above:]
         gathered.append(line)
     yield Item(kind, name, first, "".join(gathered))
 

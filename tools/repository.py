@@ -131,11 +131,11 @@ def program(crate):
     return path
 
 
-def building(crate, *more):
-    """The command that proves and builds a crate, in its folder, over the libraries below it as they stand in their folders."""
+def words_of(command, crate):
+    """A command of rattle on a crate, in its folder or that of a copy, over the libraries below it as they stand in their folders."""
     own, home = needs(), kit()
     root = "main" if (folder(crate) / "src" / "main.rt").is_file() else "lib"
-    words = [home / "bin" / "rattle", "build", "--crate-name", crate, f"src/{root}.rt"]
+    words = [home / "bin" / "rattle", command, "--crate-name", crate, f"src/{root}.rt"]
     for library in ["std", *(each for each in named()[crate] if each not in own)]:
         words += ["--extern", f"{library}={home}/rlibs/{library}.rlib"]
     words += ["-L", f"dependency={home}/rlibs"]
@@ -144,8 +144,17 @@ def building(crate, *more):
     for library in rests_on(crate):
         if library != crate:
             words += ["-L", f"dependency={rlib(library).parent}"]
-    words += ["--antt-project", home / "rattle" / "logic" / "antt-project.json", "--logic-built", home / "logic_built", "--jobs", "1", "--links", f"{crate}="]
-    return [*words, "--incremental", "out/incremental", *more]
+    return [*words, "--antt-project", home / "rattle" / "logic" / "antt-project.json", "--logic-built", home / "logic_built", "--jobs", "1", "--links", f"{crate}="]
+
+
+def building(crate, *more):
+    """The command that proves and builds a crate, in its folder."""
+    return [*words_of("build", crate), "--incremental", "out/incremental", *more]
+
+
+def checking(crate):
+    """The command that proves a copy of a crate from nothing, in the folder of the copy, and keeps nothing."""
+    return words_of("check", crate)
 
 
 def main(arguments):
