@@ -39,6 +39,7 @@ pub fn put_lines(buf: &mut [u8], at: usize) -> usize
 }
 
 // Whether a line is refused.
+#[tactic(auto, unfolding(crate::specs::Replies::is_fault))]
 pub fn is_fault(fault: Fault) -> bool
     ensures { IsFault fault result }
 {
