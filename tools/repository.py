@@ -165,6 +165,10 @@ def main(arguments):
     if missing:
         print(f"repository: rt ci left neither a library nor a program of {', '.join(missing)}", file=sys.stderr)
         return 1
+    own = [crate for crate in named() if (rlib(crate).parent / "stamp").is_file()]
+    if own:  # rt ci gave back what stood there before, which may be of other sources
+        print(f"repository: not what rt ci left, but what rt lib did: {', '.join(own)}; rt sees what of it can be used")
+        return 0
     BY_CI.parent.mkdir(parents=True, exist_ok=True)
     BY_CI.write_text(state())
     return 0
