@@ -1,4 +1,5 @@
--- The invariant: the lines of the records so far are what is put. The set's room ends the loop where its count does not.
+-- The invariant: the lines of the records so far are what is put. The set's room ends the loop where its count does
+-- not.
 use borrow.Author.Rules.{rules}
 use Rattle.buffer.proofs.Appending.{and_then}
 use Prim.Native.Nat.{◌<◌}

@@ -1,4 +1,5 @@
--- The invariant says what is left: the text begins the line just where what is left of it begins what is left of the line.
+-- The invariant says what is left: the text begins the line just where what is left of it begins what is left of the
+-- line.
 use mathlib.Core.Path.{sym, ◌∙◌}
 use native.Mathlib.Omega.{arith}
 use Rattle.survey_reply.proofs.Laws.{begins_done, begins_more, begins_other, begins_short}

@@ -1,4 +1,5 @@
--- The invariant says what is left: the text begins the line just where what is left of it begins what is left of the line.
+-- The invariant says what is left: the text begins the line just where what is left of it begins what is left of the
+-- line.
 use Prim.Native.Nat.{◌-◌}
 use mathlib.Core.Path.{◌≡◌}
 use lib.ListN.{length, drop}

@@ -1,4 +1,5 @@
--- The invariant says what is left: the answer is among the places from this one on. Of each the label and the space are put, which fit the buffer.
+-- The invariant says what is left: the answer is among the places from this one on. Of each the label and the space are
+-- put, which fit the buffer.
 use Prim.Native.Nat.{ℕ}
 use mathlib.Core.Path.{◌≡◌, refl, sym, ap, ◌∙◌}
 use mathlib.Core.Bool.{false, true}

@@ -1,4 +1,5 @@
--- The number has a message or is refused; of 2 to 7 the bits do not matter, and those of 1 are of a field or are refused.
+-- The number has a message or is refused; of 2 to 7 the bits do not matter, and those of 1 are of a field or are
+-- refused.
 use mathlib.Core.Path.{sym, ◌∙◌}
 use native.Mathlib.Omega.{arith}
 use Rattle.written.proofs.Answers.{message_no, message-other, message_badly, message-named}
