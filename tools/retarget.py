@@ -290,18 +290,24 @@ def stored(lines, at, array):
 def gathered(text):
     """The module with each long constant array as a constant, copied, where the stores of its elements were. Those are merged by the compiler for x86-64; for AArch64
     without vector registers they would be some instructions for each eight bytes."""
-    lines, constants, at = [], [], 0
+    lines, constants, arrays, at = [], [], {}, 0
     given = text.splitlines()
     while at < len(given):
-        array = ARRAY.fullmatch(given[at])
+        if array := ARRAY.fullmatch(given[at]):
+            arrays[array.group(1)] = int(array.group(2))
+        elif given[at].startswith("define "):
+            arrays = {}
+        store = STORE.fullmatch(given[at])
+        name = store and store.group(3)
+        if arrays.get(name, 0) >= LEAST:
+            data, after = stored(given, at, name)
+            if len(data) == arrays[name]:
+                constants.append(data)
+                lines.append(f"  call void @llvm.memcpy.p0.p0.i64(ptr {name}, ptr @constant.{len(constants)}, i64 {len(data)}, i1 false)")
+                at = after
+                continue
         lines.append(given[at])
         at += 1
-        if array and int(array.group(2)) >= LEAST:
-            data, after = stored(given, at, array.group(1))
-            if len(data) == int(array.group(2)):
-                constants.append(data)
-                lines.append(f"  call void @llvm.memcpy.p0.p0.i64(ptr {array.group(1)}, ptr @constant.{len(constants)}, i64 {len(data)}, i1 false)")
-                at = after
     for number, data in enumerate(constants, 1):
         escaped = "".join(f"\\{byte:02X}" for byte in data)
         lines.append(f'@constant.{number} = private unnamed_addr constant [{len(data)} x i8] c"{escaped}", align 8')
