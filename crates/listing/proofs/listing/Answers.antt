@@ -13,11 +13,15 @@ returns-then-number-ne0 c = by-refusal (listing_no _ c.decode-answer.ensures c.n
 pub returns-then-buf-bytes : goal.returns-then-buf-bytes
 returns-then-buf-bytes c =
     let d = c.decode-answer in
-    let own = listing-lent (record { whole = c.pool_bytes-pool.ensures; each = c.text_starts-starts.ensures }) (list_of d.result.records) in
-    by_shortness (listing_yes _ d.ensures c.number.ensures c.if-number-ne0.false) (small _ d.ensures) (rw own at c.put_listing-bytes.ensures) c.if-buf-bytes.true c.refused.ensures
+    let own = listing-lent (record { whole = c.pool_bytes-pool.ensures; each = c.text_starts-starts.ensures })
+    (list_of d.result.records) in
+    by_shortness (listing_yes _ d.ensures c.number.ensures c.if-number-ne0.false) (small _ d.ensures)
+    (rw own at c.put_listing-bytes.ensures) c.if-buf-bytes.true c.refused.ensures
 
 pub returns : goal.returns
 returns c =
     let d = c.decode-answer in
-    let own = listing-lent (record { whole = c.pool_bytes-pool.ensures; each = c.text_starts-starts.ensures }) (list_of d.result.records) in
-    by_writing (listing_yes _ d.ensures c.number.ensures c.if-number-ne0.false) (small _ d.ensures) (rw own at c.put_listing-bytes.ensures) c.if-buf-bytes.false (rw own at c.put_listing.ensures) refl
+    let own = listing-lent (record { whole = c.pool_bytes-pool.ensures; each = c.text_starts-starts.ensures })
+    (list_of d.result.records) in
+    by_writing (listing_yes _ d.ensures c.number.ensures c.if-number-ne0.false) (small _ d.ensures)
+    (rw own at c.put_listing-bytes.ensures) c.if-buf-bytes.false (rw own at c.put_listing.ensures) refl
