@@ -1,4 +1,6 @@
 // The decoder in the Rust's shape as a C function, so that compare/bench can time both engines in one way. It is no part of the archive that is installed.
+#![tactic(auto)]
+
 ghost use Rattle.std.specs.Prelude.{◌≤◌, length, ◌≡◌};
 ghost use Rattle.bench_layouts.specs.Promises.{FilledByLayouts};
 ghost use Rattle.capi.specs.Answers.{filled_of};

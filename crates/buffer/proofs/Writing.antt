@@ -5,8 +5,8 @@ use Prim.Native.Nat.{ℕ, suc, ◌+◌, ◌<◌}
 use native.Mathlib.Nat.{add-zero, add-suc, suc-add, le_of_lt}
 use native.Mathlib.Numerals.{add-one}
 use native.Mathlib.Omega.{arith}
-use lib.ListN.{length, take, get_or, set, length-append}
-use lib.Seq.{sets, set_comm, take-suc, length-take-le, length-sets}
+use lib.ListN.{length, take, get_or, set}
+use lib.Seq.{sets, set_comm, take-suc, length-take-le}
 
 -- one text after another is both at once
 pub sets-append : (l : List ℕ) (i : ℕ) (xs ys : List ℕ) → sets (sets l i xs) (i + length xs) ys ≡ sets l i (xs ++ ys)

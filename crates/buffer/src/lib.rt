@@ -1,5 +1,7 @@
 // What every text is made of: bytes, and a text of the pool, written from an offset of a lent buffer on, as far as the buffer goes. Each
 // gives the next offset, which counts on past the buffer's end, as C's snprintf does.
+#![tactic(auto)]
+
 ghost use Rattle.std.specs.Prelude.{◌-◌, ◌≤◌, length, take, ◌≡◌};
 ghost use Rattle.buffer.specs.Appending.{room};
 ghost use Rattle.buffer.specs.Promises.{BytesPut, OffsetAfter, TextPut};

@@ -1,6 +1,8 @@
 // The C functions: each calls a function of the crates below and tells its answer in numbers, a refusal as its number, what it carries, and the start
 // and width of the field that it names.
 // `include/esr.h` declares them.
+#![tactic(auto)]
+
 ghost use Rattle.std.specs.Prelude.{◌≤◌, length, cond, ◌≡◌};
 ghost use Rattle.capi.specs.Answers.{filled_of, phrase_answer};
 ghost use Rattle.capi.specs.Buffers.{front};
@@ -16,7 +18,7 @@ use written::Written;
 
 // How many slots or bytes the front of the caller's array now holds; none on a refusal.
 #[repr(C)]
-#[derive(Drop)]
+#[derive(Clone, Copy)]
 pub struct Filled {
     pub carried: u64,
     pub count: usize,
@@ -27,7 +29,7 @@ pub struct Filled {
 
 // A number that was read, or a value that was made.
 #[repr(C)]
-#[derive(Drop)]
+#[derive(Clone, Copy)]
 pub struct NumberAnswer {
     pub value: u64,
     pub carried: u64,
@@ -38,7 +40,7 @@ pub struct NumberAnswer {
 
 // The bytes that the number took stand at the front of the caller's own; what follows them is the caller's to judge (#107).
 #[repr(C)]
-#[derive(Drop)]
+#[derive(Clone, Copy)]
 pub struct ReadAnswer {
     pub value: u64,
     pub carried: u64,
@@ -50,7 +52,7 @@ pub struct ReadAnswer {
 
 // The body is given by its offset in the caller's own block: where it starts, and how many bytes it has.
 #[repr(C)]
-#[derive(Drop)]
+#[derive(Clone, Copy)]
 pub struct EntryAnswer {
     pub esr: u64,
     pub carried: u64,
@@ -64,7 +66,7 @@ pub struct EntryAnswer {
 
 // Where a walk ended, and the number of the refusal of the bad entry that ended it, which carries and names nothing.
 #[repr(C)]
-#[derive(Drop)]
+#[derive(Clone, Copy)]
 pub struct WalkAnswer {
     pub carried: u64,
     pub entries: usize,
@@ -78,7 +80,7 @@ pub struct WalkAnswer {
 
 // How many values each of the refusals 1 to 7 refused, in their order.
 #[repr(C)]
-#[derive(Drop)]
+#[derive(Clone, Copy)]
 pub struct SurveyAnswer {
     pub carried: u64,
     pub refused: [u32; 7],
@@ -89,7 +91,7 @@ pub struct SurveyAnswer {
 
 // The phrase is given by the sheet that has it, 0 where neither has, and by its offset there (#112).
 #[repr(C)]
-#[derive(Drop)]
+#[derive(Clone, Copy)]
 pub struct PhraseAnswer {
     pub carried: u64,
     pub offset: usize,

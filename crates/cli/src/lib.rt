@@ -1,17 +1,19 @@
 // What the programs for machines read and write: lines of any length, through fixed buffers. What they say of a line is promised by
 // `records_reply`; they differ in the kind of reply alone, so the reading of the input stands here. The caller says what is done with what stands behind a
 // number (#107).
+#![tactic(auto)]
+
 ghost use Rattle.cli.specs.Promises.{Answered};
 ghost use Rattle.std.specs.Prelude.{◌≡◌};
 
-use libc::STDIN_FILENO;
 use line_reader::Rest;
 use number::{Number, NumberState};
 use records_reply::{put_number_reply, put_records_reply};
+use std::io::{Read, Stdin};
 use strict::Profile;
 
 // What a program says of each line.
-#[derive(Drop)]
+#[derive(Clone, Copy)]
 pub enum Kind {
     // `ok 0xH` or `refused N`.
     Number,
@@ -72,13 +74,13 @@ fn answer_last(kind: Kind, rest: Rest, line: NumberState, buf: &mut [u8]) -> usi
 }
 
 // A proved loop has to end, and nothing says that an input does: it counts down from a number of reads that no run uses up.
-fn answer_all(kind: Kind, rest: Rest, part: &mut [u8], buf: &mut [u8]) -> usize
+fn answer_all(kind: Kind, rest: Rest, mut stdin: Stdin, part: &mut [u8], buf: &mut [u8]) -> usize
     ensures { result ≡ 0 }
 {
     let mut line = NumberState::start();
     let mut turns = u64::MAX;
     while 0 < turns {
-        let got = libc::read(STDIN_FILENO, part);
+        let got = streams::got(stdin.read(part).ok());
         let n = streams::count_read(got, part);
         if n == 0 {
             return answer_last(kind, rest, line, buf);
@@ -90,10 +92,10 @@ fn answer_all(kind: Kind, rest: Rest, part: &mut [u8], buf: &mut [u8]) -> usize
 }
 
 // Answers each line of standard input. The answer is how many bytes of what it said are still held.
-pub fn answer(kind: Kind, rest: Rest) -> usize
+pub fn answer(kind: Kind, rest: Rest, stdin: Stdin) -> usize
     ensures { Answered (kind, rest) result }
 {
     let mut part = io::large_buffer();
     let mut buf = io::large_buffer();
-    answer_all(kind, rest, &mut part, &mut buf)
+    answer_all(kind, rest, stdin, &mut part, &mut buf)
 }

@@ -1,4 +1,6 @@
 // The lines of two readings side by side, in a lent buffer from an offset on: those of a record under a mark, and those of a row whose record differs (#114).
+#![tactic(auto)]
+
 ghost use Rattle.buffer.specs.Appending.{Appends};
 ghost use Rattle.diff_lines.specs.Lines.{front_at, text_or, texts_line, text_under, values_line};
 ghost use Rattle.diff_lines.specs.Promises.{ChangedLines, MarkedLines};

@@ -1,4 +1,6 @@
 // What `esr diff` says of two values, byte for byte, in a lent buffer from an offset on: the records of both side by side, or why a value is refused (#114).
+#![tactic(auto)]
+
 ghost use Rattle.std.specs.Prelude.{◌≤◌, drop, length, ◌≡◌};
 ghost use Rattle.buffer.specs.Appending.{Appends};
 ghost use Rattle.diff_reply.specs.Promises.{DiffReply, NotTwo};
@@ -70,7 +72,7 @@ fn counted(records: Records) -> usize
 }
 
 // Which reading has the next part.
-#[derive(Drop)]
+#[derive(Clone, Copy)]
 enum Side {
     First,
     Second,
@@ -125,7 +127,7 @@ fn put_part(
 }
 
 // Where the two lists stand after a step.
-#[derive(Drop)]
+#[derive(Clone, Copy)]
 struct Turn {
     next: usize,
     first: usize,

@@ -1,11 +1,13 @@
 // Digits of a number, in base 2, 10 or 16, in a lent buffer: as many as are asked for, or the fewest that hold the number. In base 2 and 16
 // they are groups of the number's bits, found by shifts, highest first; decimal ones are found by division, lowest first.
+#![tactic(auto)]
+
 ghost use Rattle.std.specs.Prelude.{◌+◌, ◌-◌, ◌*◌, ◌/◌, ◌^◌, ◌≤◌, ◌<◌, length, ◌≡◌};
 ghost use Rattle.buffer.specs.Appending.{Appends};
 ghost use Rattle.digits.specs.Digits.{digit_char, digits_of, radix_of, unpadded};
 ghost use Rattle.digits.specs.Promises.{DigitsPut, NumberPut};
 
-#[derive(Drop)]
+#[derive(Clone, Copy)]
 pub enum Base {
     Binary,
     Decimal,

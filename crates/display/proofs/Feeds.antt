@@ -1,9 +1,9 @@
 -- #112: a phrase is written as it is, a line feed in it too: its line then has as many line feeds more as the phrase has. What stands behind one is a
 -- line of its own, without "# " and without the indent. By counting line feeds, one part of the line after the other.
-use Prim.Native.Nat.{ℕ, suc, ◌+◌}
+use Prim.Native.Nat.{ℕ, ◌+◌}
 use mathlib.Core.Bool.{Bool, true, false, cond}
 use mathlib.Core.List.{List, [], ◌∷◌, ◌++◌}
-use mathlib.Core.Path.{◌≡◌, refl, ap, ◌∙◌}
+use mathlib.Core.Path.{◌≡◌, refl}
 use native.Mathlib.Omega.{arith}
 use lib.Dec.{eqb, ltb}
 use Rattle.phrases.specs.Sheets.{found}

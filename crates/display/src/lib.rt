@@ -1,5 +1,7 @@
 // The Rust's Display of a record, and the listing of a set of records, in a lent buffer from an offset on. Names come from a pool that is lent, so
 // that a caller fetches it once; texts from the pool too, or from two phrase sheets (#112).
+#![tactic(auto)]
+
 ghost use Rattle.std.specs.Prelude.{◌+◌, ◌≡◌};
 ghost use Rattle.buffer.specs.Appending.{Appends};
 ghost use Rattle.buffer.specs.Lent.{part_in};

@@ -1,4 +1,6 @@
 // The engine: a walk over packed rows of the one table, under the tests that an ISS passes. It knows no layout by name.
+#![tactic(auto)]
+
 ghost use Rattle.std.specs.Prelude.{◌<◌, T, ◌≡◌};
 ghost use Rattle.engine.specs.Engine.{applies, byte_of, direct, failure_from, failure_of, records_by, row_in, tops_of};
 ghost use Rattle.engine.specs.Engine as engine;

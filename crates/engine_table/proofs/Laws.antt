@@ -1,5 +1,5 @@
 -- Past the last row there is none, and no layout serves a class of more than six bits.
-use mathlib.Core.Path.{◌≡◌, refl, sym, ap, ◌∙◌, subst}
+use mathlib.Core.Path.{◌≡◌, refl, sym}
 use mathlib.Core.Bool.{Bool, true, false, cond}
 use mathlib.Core.List.{List, [], ◌∷◌}
 use Prim.Native.Nat.{ℕ, ◌+◌, ◌≤◌}
@@ -9,7 +9,7 @@ use lib.ListN.{length, get_or-eq_default}
 use Rattle.promise.specs.Member.{member}
 use Rattle.promise.proofs.Tests.{every, every_mem, both_left, both_right, of-member, is_true}
 use Rattle.tables.specs.Tables.{Served, layouts, res0, wf, mcr, mcrr, ldc, sve, ld64b, bti, pauth, hvc, brk, fp, breakpoint, software_step, watchpoint, instruction_abort, data_abort, serror, msr}
-use Rattle.engine_table.specs.Packed.{row_words, row_word, Place, nowhere, placed, place_in, place_of, place_word, check_word}
+use Rattle.engine_table.specs.Packed.{row_words, row_word, nowhere, placed, place_in, place_of, place_word, check_word}
 
 row_count : length row_words ≡ 133
 unfolding row_words layouts res0 wf mcr mcrr ldc sve ld64b bti pauth hvc brk fp breakpoint software_step watchpoint instruction_abort data_abort serror msr

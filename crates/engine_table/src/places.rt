@@ -3,6 +3,7 @@
 ghost use Rattle.engine_table.specs.Promises.{PlaceWord};
 
 // The place of a class; of one that no layout serves, 0.
+#[tactic(auto, unfolding(crate::specs::Packed::place_word, crate::specs::Packed::place_of, tables::specs::Tables::layouts, tables::specs::Tables::res0, tables::specs::Tables::wf, tables::specs::Tables::mcr, tables::specs::Tables::mcrr, tables::specs::Tables::ldc, tables::specs::Tables::sve, tables::specs::Tables::ld64b, tables::specs::Tables::bti, tables::specs::Tables::pauth, tables::specs::Tables::hvc, tables::specs::Tables::brk, tables::specs::Tables::fp, tables::specs::Tables::breakpoint, tables::specs::Tables::software_step, tables::specs::Tables::watchpoint, tables::specs::Tables::instruction_abort, tables::specs::Tables::data_abort, tables::specs::Tables::serror, tables::specs::Tables::msr, records::specs::Kinds::kind_of))]
 pub fn place_word(class: u64) -> u64
     ensures { PlaceWord class result }
 {

@@ -3,6 +3,7 @@
 ghost use Rattle.engine_table.specs.Promises.{RowWord};
 
 // The row of an index; past the last, 0.
+#[tactic(auto, unfolding(crate::specs::Packed::row_word, crate::specs::Packed::row_words, crate::specs::Packed::packed, tables::specs::Tables::layouts, tables::specs::Tables::res0, tables::specs::Tables::wf, tables::specs::Tables::mcr, tables::specs::Tables::mcrr, tables::specs::Tables::ldc, tables::specs::Tables::sve, tables::specs::Tables::ld64b, tables::specs::Tables::bti, tables::specs::Tables::pauth, tables::specs::Tables::hvc, tables::specs::Tables::brk, tables::specs::Tables::fp, tables::specs::Tables::breakpoint, tables::specs::Tables::software_step, tables::specs::Tables::watchpoint, tables::specs::Tables::instruction_abort, tables::specs::Tables::data_abort, tables::specs::Tables::serror, tables::specs::Tables::msr, texts::specs::Names::names, texts::specs::Pool::code, texts::specs::Pool::index_in))]
 pub fn row_word(index: usize) -> u64
     ensures { RowWord index result }
 {

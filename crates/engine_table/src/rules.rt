@@ -3,6 +3,7 @@
 ghost use Rattle.engine_table.specs.Promises.{FirstText, ValuesOf};
 
 // The values that a rule has a text for, as bits.
+#[tactic(auto, unfolding(lookup::specs::Descriptions::numbers_of, lookup::specs::Descriptions::bits_of, texts::specs::Pool::describes, texts::specs::Pool::on_list, texts::specs::Pool::rule_at, texts::specs::Pool::first_of, texts::specs::Pool::codes_of, texts::specs::Rules::rules, registers::specs::Registers::registers))]
 pub fn values_of(rule: u8) -> u64
     ensures { ValuesOf rule result }
 {
@@ -62,6 +63,7 @@ pub fn values_of(rule: u8) -> u64
 }
 
 // The code of a rule's text of 0, from which the others count on.
+#[tactic(auto, unfolding(lookup::specs::Descriptions::numbers_of, lookup::specs::Descriptions::bits_of, texts::specs::Pool::describes, texts::specs::Pool::on_list, texts::specs::Pool::rule_at, texts::specs::Pool::first_of, texts::specs::Pool::codes_of, texts::specs::Rules::rules, registers::specs::Registers::registers))]
 pub fn first_text(rule: u8) -> u64
     ensures { FirstText rule result }
 {

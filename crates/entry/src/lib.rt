@@ -1,4 +1,6 @@
 // Reads one flash entry, big-endian: its numbers, and its body as a part of the caller's own block.
+#![tactic(auto)]
+
 ghost use Rattle.std.specs.Prelude.{◌<◌, ◌^◌, ◌≤◌, length, ◌≡◌};
 ghost use Rattle.entry.specs.BigEndian.{big_endian};
 ghost use Rattle.entry.specs.Entries.{judged, lent};
@@ -12,7 +14,7 @@ const LENGTH: u64 = 11;
 const VERSION: u8 = 1;
 
 // The numbers, or the refusal and numbers of 0. The ESR is not judged here.
-#[derive(Drop)]
+#[derive(Clone, Copy)]
 pub struct Entry {
     pub esr: u64,
     pub refusal: Refusal,

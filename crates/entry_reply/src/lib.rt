@@ -1,5 +1,7 @@
 // What a workshop is told of a flash entry, byte for byte, in a lent buffer from an offset on: its numbers, its body and the listing of its ESR, or
 // its refusal.
+#![tactic(auto)]
+
 ghost use Rattle.buffer.specs.Appending.{Appends};
 ghost use Rattle.entry_reply.specs.Promises.{EntryReply};
 ghost use Rattle.entry_reply.specs.Replies.{entry_text};

@@ -21,11 +21,11 @@ use Rattle.records.specs.declared.Records.{Records}
 use Rattle.records.specs.declared.Row.{Row}
 use Rattle.tables.specs.Shape.{Line, Table, tests}
 use Rattle.tables.specs.Applying.{passes, met, keep, rows_for, is_check, is_check_at, check_at, in_order, checks_for}
-use Rattle.tables.specs.Tables.{reserved, top_rows, Served, layouts}
+use Rattle.tables.specs.Tables.{reserved, Served, layouts}
 use Rattle.tables.proofs.Laws.{keep-is}
 use Rattle.tables.proofs.Sound.{tiles, tiled, sound-table, sound}
-use Rattle.engine_table.specs.Packed.{bytes_of, answers_of, packed, row_word, askers_at, askers, Place, nowhere, placed, place_of, place_word, check_word}
-use Rattle.engine.specs.Engine.{byte_of, row_in, applies, fails, failure_from, checks_in, rule_in, failure_of, judgement, tops_of, rows_of, records_by, readings}
+use Rattle.engine_table.specs.Packed.{bytes_of, answers_of, row_word, askers_at, askers, Place, nowhere, placed, place_of, place_word, check_word}
+use Rattle.engine.specs.Engine.{row_in, applies, fails, failure_from, checks_in, failure_of, judgement, tops_of, records_by, readings}
 use Rattle.engine.specs.Promises.{Judged, Walked}
 use Rattle.engine.proofs.Rows.{right_line, right, own, row_back, applies_as, Stands, table_for, Found, Looked, missing, found, looked, rows-found, are_bytes, Placed, place-back, rows_at}
 use Rattle.esr.specs.Decode.{first_failure, refused, accepted, failure_for, records_for, table_answer, class_of, iss_of, class_answer, answer_of}

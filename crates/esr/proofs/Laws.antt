@@ -2,7 +2,7 @@
 use mathlib.Core.Path.{◌≡◌, refl, sym, ap, ap₂, ◌∙◌, subst}
 use mathlib.Core.Bool.{Bool, true, false, cond}
 use mathlib.Core.List.{List, [], ◌∷◌, map, map-append, Memᴰ}
-use Prim.Native.Nat.{ℕ, zero, suc, ◌+◌, ◌-◌, ◌≤◌, ◌<◌}
+use Prim.Native.Nat.{ℕ, suc, ◌+◌, ◌-◌, ◌≤◌, ◌<◌}
 use native.Mathlib.Nat.{zero-add}
 use native.Mathlib.Numerals.{add-one}
 use native.Mathlib.Omega.{arith}
@@ -140,6 +140,7 @@ nineteen = refl
 -- A class is served exactly if its slot of the class table is filled.
 
 number_less : (n c : ℕ) (s : Served) (ss : List Served) → Memᴰ s ss → T (member c s.classes) → number_in n ss c < n + length ss
+number_less n c s [] m t = elim m [ ]
 number_less n c s (x ∷ xs) (Memᴰ.head e) t =
     subst (λ (b : Bool). cond b n (number_in (suc n) xs c) < n + suc (length xs))
     (sym (true_is (member c x.classes) (subst (λ (y : Served). T (member c y.classes)) e t))) (omega arith)

@@ -1,5 +1,7 @@
 // The decoder, by both engines: `decode` walks the one table; `decode_by_layouts` has the Rust's shape, with the class table, the top rows, the checks in order, and the walk from
 // high bits to low.
+#![tactic(auto)]
+
 ghost use Rattle.engine.specs.Engine.{readings};
 ghost use Rattle.esr.specs.Decode.{accepted, failure_for, records_for, refused, table_answer};
 ghost use Rattle.esr.specs.Promises.{Decoded, LayoutNumber};
@@ -15,7 +17,7 @@ use refusals::{Reason, Refusal};
 use texts::names as n;
 
 // A refusal and no records, or the records.
-#[derive(Drop)]
+#[derive(Clone, Copy)]
 pub struct Answer {
     pub refusal: Refusal,
     pub records: Records,

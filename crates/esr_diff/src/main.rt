@@ -1,17 +1,19 @@
 // The records of two values side by side (#114). The values are numbers, one to a line of standard input. What is said of them is promised by `diff_reply`; here lines of any
 // length are read, through fixed buffers.
+#![tactic(auto)]
+
 use given_numbers::{Given, Reading};
-use libc::STDIN_FILENO;
+use std::io::{Read, Stdin};
 
 // So many numbers are asked for.
 const ASKED: usize = 2;
 
 // A proved loop has to end, and nothing says that an input does: it counts down from a number of reads that no run uses up.
-fn read_numbers(part: &mut [u8], numbers: &mut [u64]) -> Given {
+fn read_numbers(mut stdin: Stdin, part: &mut [u8], numbers: &mut [u64]) -> Given {
     let mut read = Reading::start();
     let mut turns = u64::MAX;
     while 0 < turns {
-        let got = libc::read(STDIN_FILENO, part);
+        let got = streams::got(stdin.read(part).ok());
         let n = streams::count_read(got, part);
         if n == 0 {
             return given_numbers::take_last(read, numbers);
@@ -34,11 +36,11 @@ fn put_reply(buf: &mut [u8], given: Given, first: u64, second: u64) -> usize {
     diff_reply::put_diff_reply(buf, 0, first, second)
 }
 
-fn main() {
+fn main(rt: HostRuntime) {
     let mut part = io::large_buffer();
     let mut buf = io::large_buffer();
     let mut numbers = [0u64; ASKED];
-    let given = read_numbers(&mut part, &mut numbers);
+    let given = read_numbers(rt.stdin(), &mut part, &mut numbers);
     let end = put_reply(&mut buf, given, numbers[0], numbers[1]);
     streams::flush(&buf, end);
 }

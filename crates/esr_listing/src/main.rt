@@ -2,19 +2,22 @@
 // promised by `listing_reply`; here lines of any length are read and replies are written, through fixed buffers. A line is one whole number, or with
 // `--remarks` begins with one (#107). With a second option, `--strict` or `--nested`, values are read strictly (#110). With a third, `--sheet`, the texts are those of the sheet
 // that the command hands on in the fourth place, and of the standard sheet (#112).
+#![tactic(auto)]
+
 ghost use Rattle.std.specs.Prelude.{◌≡◌, ◌≤◌, length};
 
-use libc::STDIN_FILENO;
 use line_reader::{Rest, line_number, rest_asked};
 use listing_reply::{put_listing_reply, put_listing_with_reply};
 use number::{Number, NumberState};
+use std::io::{Read, Stdin};
+use std::rt::Env;
 use strict::{Profile, profile_asked};
 
 // The longest sheet: bytes past its length are not read.
 const SHEET: usize = 65537;
 
 // What the options ask for.
-#[derive(Drop)]
+#[derive(Clone, Copy)]
 struct Asked {
     rest: Rest,
     profile: Profile,
@@ -23,7 +26,7 @@ struct Asked {
 
 // Where a run stands between two parts of its input: the line that is being read, how many lines have ended, whether more than one line is known of, so that lines
 // are named, and whether the first one has ended and waits to be answered.
-#[derive(Drop)]
+#[derive(Clone, Copy)]
 struct Standing {
     line: NumberState,
     count: u64,
@@ -183,7 +186,14 @@ fn answer_last(asked: Asked, workshop: &[u8], standard: &[u8], standing: Standin
 }
 
 // A proved loop has to end, and nothing says that an input does: it counts down from a number of reads that no run uses up.
-fn answer_all(asked: Asked, workshop: &[u8], standard: &[u8], part: &mut [u8], buf: &mut [u8]) {
+fn answer_all(
+    asked: Asked,
+    workshop: &[u8],
+    standard: &[u8],
+    mut stdin: Stdin,
+    part: &mut [u8],
+    buf: &mut [u8],
+) {
     let mut standing = Standing {
         line: NumberState::start(),
         count: 0,
@@ -192,7 +202,7 @@ fn answer_all(asked: Asked, workshop: &[u8], standard: &[u8], part: &mut [u8], b
     };
     let mut turns = u64::MAX;
     while 0 < turns {
-        let got = libc::read(STDIN_FILENO, part);
+        let got = streams::got(stdin.read(part).ok());
         let n = streams::count_read(got, part);
         if n == 0 {
             answer_last(asked, workshop, standard, standing, buf);
@@ -220,24 +230,31 @@ fn write_standard(standard: &mut [u8]) -> usize
     written.bytes
 }
 
-fn main() {
+fn main(rt: HostRuntime) {
     let mut part = io::large_buffer();
     let mut buf = io::large_buffer();
     let mut workshop = sheet_room();
     let mut standard = io::large_buffer();
     let mut option = [0u8; 16];
-    let n = os::arg(1, &mut option);
+    let n = streams::copied(rt.arg(1, &mut option).ok(), &option);
     let rest = rest_asked(&option[0..n]);
-    let k = os::arg(2, &mut option);
+    let k = streams::copied(rt.arg(2, &mut option).ok(), &option);
     let profile = profile_asked(&option[0..k]);
-    let m = os::arg(3, &mut option);
+    let m = streams::copied(rt.arg(3, &mut option).ok(), &option);
     let sheets = words::is_word(&option[0..m], b"--sheet");
-    let w = os::arg(4, &mut workshop);
+    let w = streams::copied(rt.arg(4, &mut workshop).ok(), &workshop);
     let s = write_standard(&mut standard);
     let asked = Asked {
         rest,
         profile,
         sheets,
     };
-    answer_all(asked, &workshop[0..w], &standard[0..s], &mut part, &mut buf);
+    answer_all(
+        asked,
+        &workshop[0..w],
+        &standard[0..s],
+        rt.stdin(),
+        &mut part,
+        &mut buf,
+    );
 }

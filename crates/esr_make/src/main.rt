@@ -1,9 +1,13 @@
 // A value made of numbers, one to a line of standard input: the class, IL, ISS2 and the leaves of ISS from high to low (#106); with `--help` the sets of leaves of a class.
 // What is said of them is promised by `make_reply`; here lines of any length are read, through fixed buffers.
+#![tactic(auto)]
+
 ghost use Rattle.std.specs.Prelude.{◌≤◌, length, ◌≡◌};
 
 use given_numbers::{Given, Reading};
-use libc::{STDERR_FILENO, STDIN_FILENO};
+use std::io::{Read, Stdin};
+use std::rt::Env;
+use streams::STDERR;
 
 // So many numbers are kept. No set has more than 14 leaves, so that what is not kept decides nothing.
 const KEPT: usize = 4096;
@@ -18,11 +22,11 @@ fn places() -> [u64; KEPT]
 }
 
 // A proved loop has to end, and nothing says that an input does: it counts down from a number of reads that no run uses up.
-fn read_numbers(part: &mut [u8], numbers: &mut [u64]) -> Given {
+fn read_numbers(mut stdin: Stdin, part: &mut [u8], numbers: &mut [u64]) -> Given {
     let mut read = Reading::start();
     let mut turns = u64::MAX;
     while 0 < turns {
-        let got = libc::read(STDIN_FILENO, part);
+        let got = streams::got(stdin.read(part).ok());
         let n = streams::count_read(got, part);
         if n == 0 {
             return given_numbers::take_last(read, numbers);
@@ -40,7 +44,7 @@ fn kept(count: usize, numbers: &[u64]) -> usize
 {
     if numbers.len() < count {
         io::write_all(
-            STDERR_FILENO,
+            STDERR,
             b"esr: more than 4,096 numbers; the first are looked at\n",
         );
         return numbers.len();
@@ -65,17 +69,17 @@ fn put_reply(buf: &mut [u8], help: bool, given: Given, numbers: &[u64]) -> usize
     make_reply::put_make_reply(buf, 0, numbers[0], numbers[1], numbers[2], &numbers[3..end])
 }
 
-fn asks_help() -> bool {
+fn asks_help(rt: &impl Env) -> bool {
     let mut word = [0u8; 8];
-    let n = os::arg(1, &mut word);
+    let n = streams::copied(rt.arg(1, &mut word).ok(), &word);
     words::is_word(&word[0..n], b"--help")
 }
 
-fn main() {
+fn main(rt: HostRuntime) {
     let mut part = io::large_buffer();
     let mut buf = io::large_buffer();
     let mut numbers = places();
-    let given = read_numbers(&mut part, &mut numbers);
-    let end = put_reply(&mut buf, asks_help(), given, &numbers);
+    let given = read_numbers(rt.stdin(), &mut part, &mut numbers);
+    let end = put_reply(&mut buf, asks_help(&rt), given, &numbers);
     streams::flush(&buf, end);
 }

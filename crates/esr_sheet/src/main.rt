@@ -1,13 +1,17 @@
 // The standard phrase sheet on standard output; with `--text` as lines of a code and its text, to translate; with `--from` the sheet that such lines of standard input make (#112).
 // What is written is promised by `sheets` and `sheet_reply`; here lines are read and bytes written, through fixed buffers. The first line that is refused is told, and no sheet is written.
+#![tactic(auto)]
+
 ghost use Rattle.std.specs.Prelude.{◌≤◌};
 
-use libc::{STDERR_FILENO, STDIN_FILENO};
 use sheet_lines::Fault;
+use std::io::{Read, Stdin};
+use std::rt::Env;
+use streams::STDERR;
 
 // Where a run stands between two parts of its input: how many bytes of the line came, how many lines have ended, where the phrases end, the code that the next line must have at
 // least, and whether a line was refused.
-#[derive(Drop)]
+#[derive(Clone, Copy)]
 struct Standing {
     held: usize,
     lines: u64,
@@ -28,7 +32,7 @@ fn smaller(a: usize, b: usize) -> usize
 fn tell(line: u64, fault: Fault) {
     let mut text = io::buffer();
     let end = sheet_reply::put_fault(&mut text, 0, line, fault);
-    io::write_all(STDERR_FILENO, &text[0..smaller(end, 4096)]);
+    io::write_all(STDERR, &text[0..smaller(end, 4096)]);
 }
 
 // Takes the line that has ended, of which this much came. One that does not fit the buffer has far more than 255 bytes.
@@ -97,7 +101,7 @@ fn take_last(standing: Standing, line: &[u8], phrases: &mut [u8]) -> Standing {
 }
 
 // A proved loop has to end, and nothing says that an input does: it counts down from a number of reads that no run uses up.
-fn take_lines(part: &mut [u8], line: &mut [u8], phrases: &mut [u8]) -> Standing {
+fn take_lines(mut stdin: Stdin, part: &mut [u8], line: &mut [u8], phrases: &mut [u8]) -> Standing {
     let mut standing = Standing {
         held: 0,
         lines: 0,
@@ -107,7 +111,7 @@ fn take_lines(part: &mut [u8], line: &mut [u8], phrases: &mut [u8]) -> Standing 
     };
     let mut turns = u64::MAX;
     while 0 < turns {
-        let got = libc::read(STDIN_FILENO, part);
+        let got = streams::got(stdin.read(part).ok());
         let n = streams::count_read(got, part);
         if n == 0 {
             return take_last(standing, line, phrases);
@@ -121,11 +125,11 @@ fn take_lines(part: &mut [u8], line: &mut [u8], phrases: &mut [u8]) -> Standing 
     standing
 }
 
-fn write_made() {
+fn write_made(stdin: Stdin) {
     let mut part = io::large_buffer();
     let mut line = io::large_buffer();
     let mut phrases = io::large_buffer();
-    let made = take_lines(&mut part, &mut line, &mut phrases);
+    let made = take_lines(stdin, &mut part, &mut line, &mut phrases);
     if made.refused {
         return;
     }
@@ -147,15 +151,15 @@ fn write_standard() {
     streams::flush(&buf, written.bytes);
 }
 
-fn main() {
+fn main(rt: HostRuntime) {
     let mut word = [0u8; 8];
-    let n = os::arg(1, &mut word);
+    let n = streams::copied(rt.arg(1, &mut word).ok(), &word);
     if words::is_word(&word[0..n], b"--text") {
         write_lines();
         return;
     }
     if words::is_word(&word[0..n], b"--from") {
-        write_made();
+        write_made(rt.stdin());
         return;
     }
     write_standard();

@@ -3,15 +3,19 @@
 //
 // Without a word it counts the first 4,096 lines. `--all` counts every line, a run of 4,096 after the other, and says how many values were refused too. With a second
 // option, `--strict` or `--nested`, values are read strictly (#110).
+#![tactic(auto)]
+
 ghost use Rattle.std.specs.Prelude.{◌≤◌, length, ◌≡◌};
 
-use libc::{STDERR_FILENO, STDIN_FILENO};
 use number_lines::Lines;
+use std::io::{Read, Stdin};
+use std::rt::Env;
+use streams::STDERR;
 use strict::{Profile, profile_asked};
 use survey_reply::PLACES;
 
 // What the options ask for.
-#[derive(Drop)]
+#[derive(Clone, Copy)]
 struct Asked {
     all: bool,
     profile: Profile,
@@ -44,7 +48,7 @@ fn count_run(asked: Asked, lines: Lines, run: &[u64], totals: &mut [u64]) {
     let tally = survey::survey(profile, &run[0..n], &mut counts);
     let refused = tally.refused;
     if !survey_reply::add_run(totals, &counts, refused, lines.none as u64) {
-        io::write_all(STDERR_FILENO, b"esr: a count does not fit 64 bits\n");
+        io::write_all(STDERR, b"esr: a count does not fit 64 bits\n");
     }
 }
 
@@ -83,7 +87,13 @@ fn count_last(asked: Asked, lines: Lines, run: &mut [u64], totals: &mut [u64]) {
 }
 
 // A proved loop has to end, and nothing says that an input does: it counts down from a number of reads that no run uses up.
-fn count_values(asked: Asked, part: &mut [u8], run: &mut [u64], totals: &mut [u64]) {
+fn count_values(
+    asked: Asked,
+    mut stdin: Stdin,
+    part: &mut [u8],
+    run: &mut [u64],
+    totals: &mut [u64],
+) {
     let mut lines = Lines::start();
     let mut turns = u64::MAX;
     while 0 < turns {
@@ -92,7 +102,7 @@ fn count_values(asked: Asked, part: &mut [u8], run: &mut [u64], totals: &mut [u6
             count_run(asked, lines, run, totals);
             return;
         }
-        let got = libc::read(STDIN_FILENO, part);
+        let got = streams::got(stdin.read(part).ok());
         let n = streams::count_read(got, part);
         if n == 0 {
             count_last(asked, lines, run, totals);
@@ -103,21 +113,21 @@ fn count_values(asked: Asked, part: &mut [u8], run: &mut [u64], totals: &mut [u6
     }
 }
 
-fn options() -> Asked {
+fn options(rt: &impl Env) -> Asked {
     let mut word = [0u8; 16];
-    let n = os::arg(1, &mut word);
+    let n = streams::copied(rt.arg(1, &mut word).ok(), &word);
     let all = words::is_word(&word[0..n], b"--all");
-    let k = os::arg(2, &mut word);
+    let k = streams::copied(rt.arg(2, &mut word).ok(), &word);
     let profile = profile_asked(&word[0..k]);
     Asked { all, profile }
 }
 
-fn main() {
+fn main(rt: HostRuntime) {
     let mut part = io::large_buffer();
     let mut run = run_places();
     let mut totals = [0u64; PLACES];
-    let asked = options();
-    count_values(asked, &mut part, &mut run, &mut totals);
+    let asked = options(&rt);
+    count_values(asked, rt.stdin(), &mut part, &mut run, &mut totals);
     let mut text = io::buffer();
     let end = survey_reply::put_survey(&mut text, 0, &totals, asked.all);
     streams::flush(&text, end);

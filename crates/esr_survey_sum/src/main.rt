@@ -1,8 +1,11 @@
 // What surveys said, added up: lines of their outputs on standard input, and one survey of all (#101). What a line says, and the sums, are promised by `survey_reply`;
 // here lines are read and the survey is written, through fixed buffers. A line that cannot be added is told, with its number, and the others are added all the same.
+#![tactic(auto)]
+
 ghost use Rattle.std.specs.Prelude.{◌≤◌};
 
-use libc::{STDERR_FILENO, STDIN_FILENO};
+use std::io::{Read, Stdin};
+use streams::STDERR;
 use survey_reply::PLACES;
 
 // Longer than any line of a survey.
@@ -12,7 +15,7 @@ const LINE: usize = 64;
 const TOLD_MAX: u64 = 10;
 
 // Where the run stands between two parts of the input: how many bytes of the line came, how many lines have ended, and how many more are told if they cannot be added.
-#[derive(Drop)]
+#[derive(Clone, Copy)]
 struct Standing {
     held: usize,
     lines: u64,
@@ -37,9 +40,9 @@ fn tell(left: u64, line: u64, what: &[u8]) -> u64 {
     let mut at = buffer::put_bytes(&mut text, 0, b"esr: line ");
     at = digits::put_number(&mut text, at, digits::Base::Decimal, line);
     at = buffer::put_bytes(&mut text, at, what);
-    io::write_all(STDERR_FILENO, &text[0..least(at, 4096)]);
+    io::write_all(STDERR, &text[0..least(at, 4096)]);
     if left == 1 {
-        io::write_all(STDERR_FILENO, b"esr: no further line is told\n");
+        io::write_all(STDERR, b"esr: no further line is told\n");
     }
     left - 1
 }
@@ -92,7 +95,7 @@ fn add_last(standing: Standing, line: &[u8], totals: &mut [u64]) {
 }
 
 // A proved loop has to end, and nothing says that an input does: it counts down from a number of reads that no run uses up.
-fn add_surveys(part: &mut [u8], line: &mut [u8], totals: &mut [u64]) {
+fn add_surveys(mut stdin: Stdin, part: &mut [u8], line: &mut [u8], totals: &mut [u64]) {
     let mut standing = Standing {
         held: 0,
         lines: 0,
@@ -100,7 +103,7 @@ fn add_surveys(part: &mut [u8], line: &mut [u8], totals: &mut [u64]) {
     };
     let mut turns = u64::MAX;
     while 0 < turns {
-        let got = libc::read(STDIN_FILENO, part);
+        let got = streams::got(stdin.read(part).ok());
         let n = streams::count_read(got, part);
         if n == 0 {
             add_last(standing, line, totals);
@@ -111,11 +114,11 @@ fn add_surveys(part: &mut [u8], line: &mut [u8], totals: &mut [u64]) {
     }
 }
 
-fn main() {
+fn main(rt: HostRuntime) {
     let mut part = io::large_buffer();
     let mut line = [0u8; LINE];
     let mut totals = [0u64; PLACES];
-    add_surveys(&mut part, &mut line, &mut totals);
+    add_surveys(rt.stdin(), &mut part, &mut line, &mut totals);
     let mut text = io::buffer();
     let end = survey_reply::put_survey(&mut text, 0, &totals, true);
     streams::flush(&text, end);

@@ -1,17 +1,20 @@
 // A value with one field set (#114). The value and the number are lines of standard input, and the field is the option. What is said of them is promised by `turn_reply`; here lines
 // of any length are read, through fixed buffers.
+#![tactic(auto)]
+
 use given_numbers::{Given, Reading};
-use libc::STDIN_FILENO;
+use std::io::{Read, Stdin};
+use std::rt::Env;
 
 // So many numbers are asked for.
 const ASKED: usize = 2;
 
 // A proved loop has to end, and nothing says that an input does: it counts down from a number of reads that no run uses up.
-fn read_numbers(part: &mut [u8], numbers: &mut [u64]) -> Given {
+fn read_numbers(mut stdin: Stdin, part: &mut [u8], numbers: &mut [u64]) -> Given {
     let mut read = Reading::start();
     let mut turns = u64::MAX;
     while 0 < turns {
-        let got = libc::read(STDIN_FILENO, part);
+        let got = streams::got(stdin.read(part).ok());
         let n = streams::count_read(got, part);
         if n == 0 {
             return given_numbers::take_last(read, numbers);
@@ -34,13 +37,13 @@ fn put_reply(buf: &mut [u8], given: Given, value: u64, field: &[u8], number: u64
     turn_reply::put_turn_reply(buf, 0, value, field, number)
 }
 
-fn main() {
+fn main(rt: HostRuntime) {
     let mut part = io::large_buffer();
     let mut buf = io::large_buffer();
     let mut numbers = [0u64; ASKED];
     let mut field = [0u8; 64];
-    let n = os::arg(1, &mut field);
-    let given = read_numbers(&mut part, &mut numbers);
+    let n = streams::copied(rt.arg(1, &mut field).ok(), &field);
+    let given = read_numbers(rt.stdin(), &mut part, &mut numbers);
     let end = put_reply(&mut buf, given, numbers[0], &field[0..n], numbers[1]);
     streams::flush(&buf, end);
 }

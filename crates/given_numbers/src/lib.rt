@@ -1,4 +1,6 @@
 // The numbers that a command is given, one to a line of its input, a part of the input at a time: how many lines there are, and the first that holds none.
+#![tactic(auto)]
+
 ghost use Rattle.given_numbers.specs.Given.{take_number};
 ghost use Rattle.given_numbers.specs.Promises.{LastTaken, PartTaken, Started};
 ghost use Rattle.std.specs.Prelude.{set, ◌≡◌};
@@ -8,7 +10,7 @@ use number::{Number, NumberState};
 use refusals::Refusal;
 
 // How many lines were taken, and the place of the first that holds no number, counted from 1, with why. The place is 0 where each holds one.
-#[derive(Drop)]
+#[derive(Clone, Copy)]
 pub struct Given {
     pub count: usize,
     pub place: usize,
@@ -16,7 +18,7 @@ pub struct Given {
 }
 
 // Where the reading stands: the line that has not ended, and what was given before it.
-#[derive(Drop)]
+#[derive(Clone, Copy)]
 pub struct Reading {
     pub line: NumberState,
     pub given: Given,

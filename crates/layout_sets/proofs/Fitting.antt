@@ -5,20 +5,20 @@ use mathlib.Core.Path.{◌≡◌, refl, sym, ap, ap₂, ◌∙◌, subst}
 use mathlib.Core.Logic.{◌⊎◌, inl, inr}
 use mathlib.Core.Bool.{Bool, true, false, cond, not, ◌&&◌, ◌||◌}
 use mathlib.Core.List.{List, [], ◌∷◌, map, Memᴰ}
-use Prim.Native.Nat.{ℕ, zero, suc, ◌≤◌, ◌<◌}
+use Prim.Native.Nat.{ℕ, suc, ◌<◌}
 use native.Mathlib.Nat.{not-suc-le-zero}
 use native.Mathlib.Omega.{arith}
 use lib.Dec.{T, eqb, ltb, eqb→eq, ltb→lt}
 use lib.ListN.{length, get_or, length-map}
 use borrow.Author.Tests.{eq-eqb}
 use Rattle.promise.specs.Member.{member}
-use Rattle.promise.proofs.Tests.{both_left, both_right, is_true, true_is, every, every_mem, or_left}
+use Rattle.promise.proofs.Tests.{both_left, both_right, is_true, every, every_mem}
 use Rattle.records.specs.Bits.{field_of}
 use Rattle.records.specs.Rows.{value_in}
 use Rattle.records.specs.declared.Row.{Row}
 use Rattle.tables.specs.Shape.{Test, Line, Table, tests}
 use Rattle.tables.specs.Applying.{passes, met, keep, rows_for}
-use Rattle.tables.specs.Tables.{Served, layouts, iss_under, res0, wf, mcr, mcrr, ldc, sve, ld64b, bti, pauth, hvc, brk, fp, breakpoint, software_step, watchpoint, instruction_abort, data_abort, serror, msr}
+use Rattle.tables.specs.Tables.{Served, layouts, res0, wf, mcr, mcrr, ldc, sve, ld64b, bti, pauth, hvc, brk, fp, breakpoint, software_step, watchpoint, instruction_abort, data_abort, serror, msr}
 use Rattle.tables.proofs.Laws.{same_list, same, known, given, knows_lines, given_is, keep-is}
 use Rattle.tables.proofs.Sound.{at_all, named, all-at}
 use Rattle.layout_sets.specs.Fitting.{leaf_rows, is_row, leaf_at, answers, Fits}
@@ -121,6 +121,7 @@ same-is : (t : Test) → same t t ≡ true
 same-is t = ap₂ ◌&&◌ (eq-eqb t.start t.start refl) (ap₂ ◌&&◌ (eq-eqb t.width t.width refl) (same_self t.among))
 
 member-known : (ts : List Test) (t : Test) → Memᴰ t ts → T (known ts t)
+member-known [] t x' = elim x' [ ]
 member-known (s ∷ ss) t (Memᴰ.head e) = subst (λ x. T (cond (same t x) true (known ss t))) e (is_true (ap (λ b. cond b true (known ss t)) (same-is t)))
 member-known (s ∷ ss) t (Memᴰ.tail m) = by (same t s) (member-known ss t m)
   where

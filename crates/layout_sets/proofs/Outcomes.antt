@@ -3,13 +3,13 @@
 use mathlib.Core.Path.{◌≡◌, refl, sym, ap, ap₂, ◌∙◌, subst}
 use mathlib.Core.Bool.{Bool, true, false, cond, not, ◌&&◌, ◌||◌}
 use mathlib.Core.List.{List, [], ◌∷◌, map}
-use Prim.Native.Nat.{ℕ, zero, suc, ◌+◌, ◌<◌, ◌≤◌}
+use Prim.Native.Nat.{ℕ, zero, suc, ◌<◌, ◌≤◌}
 use native.Mathlib.Nat.{zero-add}
 use native.Mathlib.Omega.{arith}
-use lib.Dec.{T, eqb, ltb, eqb→eq}
-use borrow.Author.Tests.{ne_eqb, ltb-true, ltb-false}
+use lib.Dec.{T, eqb, eqb→eq}
+use borrow.Author.Tests.{ne_eqb}
 use Rattle.promise.specs.Member.{member}
-use Rattle.promise.proofs.Tests.{both_left, both_right, is_true, from, from_at, Others, others_le}
+use Rattle.promise.proofs.Tests.{both_left, both_right, is_true, from, from_at}
 use Rattle.records.specs.Bits.{field_of}
 use Rattle.records.specs.declared.Row.{Row}
 use Rattle.tables.specs.Shape.{Test, Table, bit, is_status, is_external, externals, tests}
@@ -152,23 +152,16 @@ unfolding kind_of
 kind-small s = kind_less (member s (0x10 ∷ [])) (member s (0x11 ∷ [])) (member s externals)
 
 -- a status that is none of the eight from 0x10 on is of no kind
-pub no_kind : (s : ℕ) → Others 0x10 s 8 → 0 ≡ kind_of s
+pub no_kind : (s : ℕ) → ((n : ℕ) → 0x10 ≤ n → n < 0x18 → s ≡ n → ⊥) → 0 ≡ kind_of s
 unfolding kind_of
-no_kind s o = by (ltb s 0x10) refl
-  where
-    out : ((n : ℕ) → 0x10 ≤ n → n < 0x18 → s ≡ n → ⊥) → 0 ≡ kind_of s
-    out ne =
-        simp (
-          ne_eqb s 0x10 (ne 0x10 (omega arith) (omega arith)),
-          ne_eqb s 0x11 (ne 0x11 (omega arith) (omega arith)),
-          ne_eqb s 0x12 (ne 0x12 (omega arith) (omega arith)),
-          ne_eqb s 0x13 (ne 0x13 (omega arith) (omega arith)),
-          ne_eqb s 0x14 (ne 0x14 (omega arith) (omega arith)),
-          ne_eqb s 0x15 (ne 0x15 (omega arith) (omega arith)),
-          ne_eqb s 0x16 (ne 0x16 (omega arith) (omega arith)),
-          ne_eqb s 0x17 (ne 0x17 (omega arith) (omega arith)),
-        )
-
-    by : (b : Bool) → ltb s 0x10 ≡ b → 0 ≡ kind_of s
-    by true e = let h : s < 0x10 = ltb-true s 0x10 e in out (λ n a b q. omega arith)
-    by false e = let h : 0x18 ≤ s = others_le 0x10 s 8 (ltb-false s 0x10 e) o in out (λ n a b q. omega arith)
+no_kind s ne =
+    simp (
+      ne_eqb s 0x10 (ne 0x10 (omega arith) (omega arith)),
+      ne_eqb s 0x11 (ne 0x11 (omega arith) (omega arith)),
+      ne_eqb s 0x12 (ne 0x12 (omega arith) (omega arith)),
+      ne_eqb s 0x13 (ne 0x13 (omega arith) (omega arith)),
+      ne_eqb s 0x14 (ne 0x14 (omega arith) (omega arith)),
+      ne_eqb s 0x15 (ne 0x15 (omega arith) (omega arith)),
+      ne_eqb s 0x16 (ne 0x16 (omega arith) (omega arith)),
+      ne_eqb s 0x17 (ne 0x17 (omega arith) (omega arith)),
+    )

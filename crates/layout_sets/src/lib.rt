@@ -1,5 +1,7 @@
 // The sets of rows that a layout can have: an ISS for each outcome of the tests that 01's conditions name, so that every set is that of one of them, and
 // when a set fits a list of leaf values (specs/), which at most one does (proofs/).
+#![tactic(auto)]
+
 ghost use Rattle.layout_sets.specs.Outcomes.{kind_of, status_at};
 ghost use Rattle.layout_sets.specs.Promises.{Index, Outcome};
 ghost use Rattle.promise.specs.Member.{member};
@@ -32,6 +34,7 @@ pub fn outcome(index: usize) -> u64
 }
 
 // Of the statuses that conditions name, which this is: 0x10, 0x11, another that is external, or none.
+#[tactic(auto, unfolding(crate::specs::Outcomes::kind_of))]
 fn kind_of(status: u64) -> usize
     ensures { result ≡ kind_of status }
 {

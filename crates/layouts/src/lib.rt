@@ -1,5 +1,7 @@
 // The layouts of ISS: the rows of each and when they apply. A routine for each, in a file and under a name as the Rust has
 // them; here a routine only gives the rows, and decodes nothing.
+#![tactic(auto)]
+
 ghost use Rattle.layouts.specs.Promises.{LayoutOf};
 ghost use Rattle.layouts.specs.Layouts.{layout_for};
 ghost use Rattle.tables.specs.Tables.{res0};
@@ -26,7 +28,7 @@ mod wf;
 
 // The rows of ISS from high bits to low; the indices of those to check, in order; how many there are of each; the rule of ISS's own text.
 // 101 bytes with no gap, so that a layout is copied as one block.
-#[derive(Drop)]
+#[derive(Clone, Copy)]
 pub struct Layout {
     pub rows: [Row; Records::ISS_MAX],
     pub checks: [u8; Records::ISS_MAX],
@@ -51,6 +53,7 @@ fn decode_iss_res0(iss: u64) -> Layout
 }
 
 // The layout of a number, for this ISS; a number of no layout has the last one.
+#[tactic(auto, unfolding(crate::specs::Layouts::table_of, tables::specs::Tables::layouts))]
 pub fn layout_of(number: u8, iss: u64) -> Layout
     ensures { LayoutOf (number, iss) result }
 {

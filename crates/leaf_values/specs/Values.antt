@@ -1,5 +1,5 @@
 -- The values that a leaf may have: those that its row allows, and that leave the rows as they are, so that the conditions of 01 say where a number decides.
-use Rattle.std.specs.Prelude.{ℕ, zero, suc, ◌+◌, ◌-◌, ◌*◌, ◌^◌, Bool, true, false, cond, ◌&&◌, ltb, get_or}
+use Rattle.std.specs.Prelude.{ℕ, zero, suc, ◌+◌, ◌-◌, ◌*◌, ◌^◌, Bool, true, cond, ◌&&◌, ltb, get_or}
 use Rattle.layouts.specs.Layouts.{pad}
 use Rattle.leaf_values.specs.Leaves.{leaves_of, same_leaves}
 use Rattle.records.specs.Bits.{field_of}

@@ -1,4 +1,6 @@
 // The leaves of ISS by the number of a layout, and the values that each may have: those that its row allows and that leave the rows as they are.
+#![tactic(auto)]
+
 ghost use Rattle.std.specs.Prelude.{◌+◌, ◌<◌, ◌≤◌, ◌≡◌};
 ghost use Rattle.leaf_values.specs.Leaves.{same_row};
 ghost use Rattle.leaf_values.specs.Promises.{AnyMay, LeafRow, LeafCount, MayBe, RoomOf, SameLeaves, SameSets};

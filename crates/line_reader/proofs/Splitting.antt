@@ -1,6 +1,6 @@
 -- Where an input is split into lines: at the first line feed, or nowhere. By induction over the bytes before it.
 use Prim.Native.Nat.{ℕ}
-use mathlib.Core.Bool.{Bool, true, false, cond, not, ◌&&◌}
+use mathlib.Core.Bool.{Bool, true, false, cond, not}
 use mathlib.Core.List.{List, [], ◌∷◌, ◌++◌}
 use mathlib.Core.Path.{◌≡◌, refl, ap, ◌∙◌}
 use lib.Dec.{T, eqb}
@@ -13,6 +13,7 @@ unfolding lines_of
 in_line b rest t = by_feed (eqb b line_feed) t
   where
     by_feed : (f : Bool) → T (not f) → cond f ([] ∷ lines_of rest) (in_front b (lines_of rest)) ≡ in_front b (lines_of rest)
+    by_feed true u = elim u [ ]
     by_feed false u = refl
 
 module _ (b : ℕ) (line : List ℕ) (t : T (one_line (b ∷ line))) where

@@ -30,6 +30,7 @@ in_parts st at (b ∷ p) q t =
         → (T (one_line p) → part_of (step_of st b) (at + 1) (p ++ q) ≡ part_of (steps_of (step_of st b) p) (at + length (b ∷ p)) q)
         → cond f (record { state = st; next = at + 1; ended = true }) (part_of (step_of st b) (at + 1) (p ++ q))
         ≡ part_of (steps_of (step_of st b) p) (at + length (b ∷ p)) q
+    by_feed true u more = elim u [ ]
     by_feed false u more = more u
 
 read_by_steps : (rest : Rest) (s : List ℕ) → finish_by rest (steps_of start s) ≡ line_number rest s

@@ -1,10 +1,12 @@
 // The bytes of a line, a part of the input at a time, so that lines of any length go through a fixed buffer; where a line ends; and its number.
+#![tactic(auto)]
+
 ghost use Rattle.line_reader.specs.Promises.{LineEnded, NumberOfLine, RestAsked, TookLine};
 
 use number::{Number, NumberState};
 
 // What a caller does with what stands behind the number of a line (#107).
-#[derive(Drop)]
+#[derive(Clone, Copy)]
 pub enum Rest {
     // Only stops may stand there: the line is one whole number.
     Whole,
@@ -13,7 +15,7 @@ pub enum Rest {
 }
 
 // How far a part of the input goes into a line: the state, the offset after what was taken, and whether a line feed ended the line.
-#[derive(Drop)]
+#[derive(Clone, Copy)]
 pub struct LinePart {
     pub state: NumberState,
     pub next: usize,

@@ -1,15 +1,15 @@
 -- No listing with sheets is longer than `listing_with_most`: a record's lines have at most 260 bytes more than 01's, since a count of one byte says
 -- how long a text is.
-use Prim.Native.Nat.{ℕ, suc, ◌+◌, ◌*◌, ◌^◌, ◌≤◌, ◌<◌}
-use mathlib.Core.Bool.{Bool, true, false, cond}
+use Prim.Native.Nat.{ℕ, suc, ◌+◌, ◌*◌, ◌≤◌}
+use mathlib.Core.Bool.{Bool, true, false}
 use mathlib.Core.List.{List, [], ◌∷◌}
 use mathlib.Core.Path.{◌≡◌, refl, sym, ap, subst}
 use native.Mathlib.Omega.{arith}
 use borrow.Author.Tests.{eqb-true, eqb-false}
 use lib.Dec.{eqb}
-use lib.ListN.{length, take, length-append, length-take}
+use lib.ListN.{length, length-append, length-take}
 use Rattle.buffer.specs.InOrder.{each_from}
-use Rattle.display.specs.Listings.{indent_at, text_line_with, record_lines_with, listing_with, every_text, record_lines, listing}
+use Rattle.display.specs.Listings.{text_line_with, record_lines_with, listing_with, every_text, record_lines, listing}
 use Rattle.display.proofs.Cases.{indent_most, line-zero, line-missing, length_found, length-lines}
 use Rattle.esr.specs.Decode.{answer_of}
 use Rattle.esr.specs.declared.Answer.{Answer}

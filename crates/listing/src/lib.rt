@@ -1,5 +1,7 @@
 // The texts of a decoded value, at the front of a lent buffer: the line of one of its records, and the listing of all. Each function
 // measures the whole text first, by an appender without a buffer, then refuses or writes it; a refusal leaves the buffer as it was.
+#![tactic(auto)]
+
 ghost use Rattle.listing.specs.Promises.{Listing, ListingWith, RecordLine};
 
 use display::{put_line, put_listing, put_listing_with};

@@ -1,5 +1,7 @@
 // What a workshop is told of one input line, byte for byte, in a lent buffer from an offset on: the listing of a value or its refusal in words,
 // named where there is more than one line; with the project's own texts or those of two phrase sheets (#112).
+#![tactic(auto)]
+
 ghost use Rattle.buffer.specs.Appending.{Appends};
 ghost use Rattle.listing_reply.specs.Promises.{ListedPut, ListingReply, ListingWithReply};
 ghost use Rattle.listing_reply.specs.Replies.{listed_with, name_line};

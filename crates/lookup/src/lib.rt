@@ -1,4 +1,6 @@
 // What stands in the pool: the length of a text by its code, and how a rule describes a value.
+#![tactic(auto)]
+
 ghost use Rattle.lookup.specs.Promises.{LengthIn, LengthOf, Describes, Has, TextCode};
 ghost use Rattle.lookup.specs.Descriptions.{numbers_of};
 ghost use Rattle.std.specs.Prelude.{◌≡◌};
@@ -28,7 +30,7 @@ pub fn length_of(code: u16) -> u16
 }
 
 // A rule in numbers: the values that it has a text for, as bits, and its first code, that of the value 0.
-#[derive(Drop)]
+#[derive(Clone, Copy)]
 struct Descriptions(u64, u16);
 
 // Rules 1 to 31 are of one bit and have two codes each, from BIT_FIRST on. A match, and no table: a table would be built at each call.

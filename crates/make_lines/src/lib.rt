@@ -1,4 +1,6 @@
 // The sets of leaves that a layout can have, told to whoever makes a value: of each leaf its place, names and width, and the values that it may have (#106).
+#![tactic(auto)]
+
 ghost use Rattle.std.specs.Prelude.{◌<◌, ◌≤◌, length, ◌≡◌};
 ghost use Rattle.buffer.specs.Appending.{Appends};
 ghost use Rattle.leaf_values.specs.Leaves.{leaves_of};

@@ -1,4 +1,6 @@
 // Why no value was made, in words: which numbers of leaves a class can have, and which number is too wide, by its place (#106).
+#![tactic(auto)]
+
 ghost use Rattle.std.specs.Prelude.{◌+◌, ◌^◌, ◌<◌, leb, length, ◌≡◌};
 ghost use Rattle.buffer.specs.Appending.{Appends};
 ghost use Rattle.make_reasons.specs.Promises.{NoLayoutPut, WidePut};

@@ -1,5 +1,7 @@
 // What `esr make` says, byte for byte, in a lent buffer from an offset on: the value that was made, or why there is none; the sets of leaves of a class; and
 // of numbers that cannot be read or are too few (#106).
+#![tactic(auto)]
+
 ghost use Rattle.buffer.specs.Appending.{Appends};
 ghost use Rattle.make_reply.specs.Promises.{BadNumber, HelpReply, MakeReply, TooFew};
 ghost use Rattle.make_reply.specs.Replies.{reason_line};

@@ -1,4 +1,6 @@
 // The maker: the value of a class, an IL, an ISS2 and a list of leaf values for ISS from high to low, or why there is none (#106).
+#![tactic(auto)]
+
 ghost use Rattle.std.specs.Prelude.{◌≡◌, ◌%◌, ◌^◌, ◌<◌, take};
 ghost use Rattle.layout_sets.specs.Fitting.{answers, is_row, leaf_at};
 ghost use Rattle.layout_sets.specs.Outcomes.{index_of};
@@ -12,14 +14,14 @@ use refusals::{Reason, Refusal};
 use texts::names as n;
 
 // The value, or a refusal and 0.
-#[derive(Drop)]
+#[derive(Clone, Copy)]
 pub struct Made {
     pub value: u64,
     pub refusal: Refusal,
 }
 
 // The rows of the leaves of ISS from high bits to low, and how many there are.
-#[derive(Drop)]
+#[derive(Clone, Copy)]
 struct LeafRows {
     rows: [Row; Records::ISS_MAX],
     count: usize,

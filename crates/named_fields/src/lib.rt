@@ -1,4 +1,6 @@
 // What decides the rows of a value: whether a field is the class or one that a condition of the class's table names, and whether two values have the same rows (#114).
+#![tactic(auto)]
+
 ghost use Rattle.named_fields.specs.Fields.{is_field};
 ghost use Rattle.named_fields.specs.Promises.{IsNamed, SameRows};
 ghost use Rattle.std.specs.Prelude.{◌≡◌};

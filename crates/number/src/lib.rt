@@ -1,5 +1,7 @@
 // Reads a number as Rust's library does: an optional "0x", an optional "+", then digits, as far as the first stop (#107), the state after each byte
 // handed on to the next.
+#![tactic(auto)]
+
 ghost use Rattle.std.specs.Prelude.{◌≡◌, ◌<◌, ◌≤◌, false, drop};
 ghost use Rattle.number.specs.Digits.{base_of, digit_of};
 ghost use Rattle.number.specs.Numbers.{in_digits, read_digit, refused};
@@ -20,7 +22,7 @@ const SIGN: u8 = b'+';
 const MOST: u64 = 0xFFFF_FFFF_FFFF_FFFF;
 
 // What the next character may be besides a digit, and behind the number what stands there.
-#[derive(Drop)]
+#[derive(Clone, Copy)]
 pub enum Stage {
     // There is no character yet: a "+" may stand, and a "0" may begin "0x".
     Begin,
@@ -38,7 +40,7 @@ pub enum Stage {
 }
 
 // The value so far, the first refusal, the base and the stage. Where something is refused the value is 0.
-#[derive(Drop)]
+#[derive(Clone, Copy)]
 pub struct NumberState {
     pub value: u64,
     pub reason: Reason,
@@ -47,14 +49,14 @@ pub struct NumberState {
 }
 
 // The value, or the refusal and the value 0.
-#[derive(Drop)]
+#[derive(Clone, Copy)]
 pub struct Number {
     pub value: u64,
     pub refusal: Refusal,
 }
 
 // The number at the front of an input, and how many bytes it took; or the refusal, the value 0 and no bytes.
-#[derive(Drop)]
+#[derive(Clone, Copy)]
 pub struct NumberRead {
     pub value: u64,
     pub taken: usize,
@@ -62,13 +64,14 @@ pub struct NumberRead {
 }
 
 // The state after the characters before an offset.
-#[derive(Drop)]
+#[derive(Clone, Copy)]
 struct Lead {
     state: NumberState,
     at: usize,
 }
 
 // What ends a number (#107): a space, tab, carriage return or line feed.
+#[tactic(auto, unfolding(crate::specs::Rest::is_stop))]
 fn is_stop(b: u8) -> bool
     ensures { result ≡ is_stop b }
 {
@@ -103,6 +106,7 @@ fn digit_of(hex: bool, b: u8) -> u64
     wrapping_sub_u64(b as u64, b'0' as u64)
 }
 
+#[tactic(auto, unfolding(crate::specs::Steps::stage_after))]
 fn stage_after(stage: Stage, b: u8) -> Stage
     ensures { result ≡ stage_after stage b }
 {

@@ -15,7 +15,6 @@ use Rattle.line_reader.specs.Lines.{line_feed, part_of}
 use Rattle.line_reader.specs.declared.LinePart.{LinePart}
 use Rattle.number.proofs.Laws.{either}
 use Rattle.number.specs.Steps.{start, step_of, finish_before_of, has_character}
-use Rattle.number.specs.declared.NumberState.{NumberState}
 use Rattle.number_lines.specs.Runs.{is_full, on_line, end_line, take_from, take_last}
 use Rattle.number_lines.specs.declared.Lines.{Lines}
 use Rattle.number_lines.specs.declared.LinesPart.{LinesPart}

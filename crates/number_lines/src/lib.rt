@@ -1,4 +1,6 @@
 // The numbers of a run of lines, a line at a time and a part of the input at a time: as many lines as the lent run has places, so that each has one.
+#![tactic(auto)]
+
 ghost use Rattle.number_lines.specs.Promises.{Filled, LastTaken, LinesTaken, Started};
 ghost use Rattle.number_lines.specs.Runs.{end_line, on_line};
 ghost use Rattle.std.specs.Prelude.{◌≡◌};
@@ -7,7 +9,7 @@ use line_reader::take_line;
 use number::NumberState;
 
 // Where a run stands: the line that is being read, how many numbers the run has, and how many lines held none.
-#[derive(Drop)]
+#[derive(Clone, Copy)]
 pub struct Lines {
     pub line: NumberState,
     pub numbers: usize,
@@ -15,7 +17,7 @@ pub struct Lines {
 }
 
 // Where a run stands after a part of the input, and the offset after what was taken of it.
-#[derive(Drop)]
+#[derive(Clone, Copy)]
 pub struct LinesPart {
     pub lines: Lines,
     pub next: usize,

@@ -1,19 +1,19 @@
 -- What the definitions give under the tests that the code made; and a phrase lies inside its sheet and is counted by a byte, by one induction
 -- on the phrases.
-use Prim.Native.Nat.{ℕ, zero, suc, ◌+◌, ◌-◌, ◌*◌, ◌≤◌, ◌<◌}
-use mathlib.Core.Bool.{Bool, true, false, cond, not}
-use mathlib.Core.List.{List, [], ◌∷◌}
-use mathlib.Core.Path.{◌≡◌, refl, sym, ap, ◌∙◌, subst}
+use Prim.Native.Nat.{ℕ, zero, suc, ◌+◌, ◌-◌, ◌≤◌, ◌<◌}
+use mathlib.Core.Bool.{Bool, true, false, cond}
+use mathlib.Core.List.{List}
+use mathlib.Core.Path.{◌≡◌, refl, sym, subst}
 use native.Mathlib.Omega.{arith}
 use borrow.Author.Tests.{lt-ltb, le-ltb, eq-eqb, ne_eqb, ltb-true, ltb-false}
 use lib.Dec.{eqb, ltb}
 use lib.ListN.{length, get_or, take, drop, length-take, length-drop, get_or-eq_default}
 use lib.Seq.{get_or-take, get_or-drop}
 use Rattle.entry.specs.Entries.{Part}
-use Rattle.phrases.specs.Sheets.{word_at, body_of, window, Phrase, Phrases, ends, phrase, code_in, count_in, phrases_from, phrases_of, phrases_in, fault, judged, judged_both, place_of, place_in, nowhere, in_sheet, find_in, InSheet, both_sound, has_phrase, part_of, no_part, part_found, phrase_in}
+use Rattle.phrases.specs.Sheets.{word_at, body_of, window, Phrase, Phrases, ends, phrase, code_in, count_in, phrases_from, phrases_of, fault, judged, judged_both, place_of, place_in, nowhere, in_sheet, find_in, InSheet, both_sound, part_of, no_part, part_found, phrase_in}
 use Rattle.phrases.specs.declared.Found.{Found}
 use Rattle.phrases.specs.declared.Place.{Place}
-use Rattle.refusals.specs.Refusals.{bare, passed, reason_number}
+use Rattle.refusals.specs.Refusals.{reason_number}
 use Rattle.refusals.specs.declared.Reason.TheVariants.{None, ShortSheet, BadSheetVersion, LongPhrase}
 
 -- The judgement.

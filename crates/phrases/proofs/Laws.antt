@@ -1,16 +1,16 @@
 -- The phrases of a part of a sheet, by the tests that the code makes at an offset: a step of the definition, whose count of steps is always
 -- enough, read at the sheet's own bytes.
 use Prim.Native.Nat.{ℕ, zero, suc, ◌+◌, ◌-◌, ◌*◌, ◌≤◌, ◌<◌}
-use mathlib.Core.Bool.{Bool, true, false, cond}
+use mathlib.Core.Bool.{cond}
 use mathlib.Core.List.{List, [], ◌∷◌}
 use mathlib.Core.Path.{◌≡◌, refl, sym, ap, ap₂, ◌∙◌}
 use native.Mathlib.Nat.{add-zero, add_assoc}
 use native.Mathlib.Omega.{arith}
-use borrow.Author.Tests.{lt-ltb, le-ltb, eq-eqb, ne_eqb, ltb-true, ltb-false, eqb-true, eqb-false}
+use borrow.Author.Tests.{lt-ltb, le-ltb, eq-eqb, ne_eqb}
 use lib.Dec.{eqb, ltb}
 use lib.ListN.{length, get_or, take, drop, length-take, length-drop}
 use lib.Seq.{take-nil, get_or-take, get_or-drop, drop-drop}
-use Rattle.phrases.specs.Sheets.{word_at, window, body_of, Phrase, Phrases, ends, phrase, code_in, count_in, phrases_from, phrases_of}
+use Rattle.phrases.specs.Sheets.{word_at, window, Phrases, ends, phrase, code_in, count_in, phrases_from, phrases_of}
 use Rattle.refusals.specs.declared.Reason.TheVariants.{None, ShortSheet, LongPhrase}
 
 -- A part of a sheet.

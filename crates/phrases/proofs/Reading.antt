@@ -1,17 +1,17 @@
 -- Reading what was written: a sheet written from phrases with rising codes is sound, and has under each code what the phrases have, whatever
 -- bytes follow it. By induction on the phrases, each read at the front of what is left.
-use Prim.Native.Nat.{ℕ, ◌+◌, ◌-◌, ◌*◌, ◌/◌, ◌%◌, ◌≤◌, ◌<◌}
-use mathlib.Core.Bool.{Bool, true, false, cond, ◌&&◌}
+use Prim.Native.Nat.{ℕ, ◌+◌, ◌-◌, ◌*◌, ◌/◌, ◌%◌}
+use mathlib.Core.Bool.{Bool, true, false, cond}
 use mathlib.Core.List.{List, [], ◌∷◌, ◌++◌, append_assoc}
-use mathlib.Core.Path.{◌≡◌, refl, sym, ap, ap₂, ◌∙◌}
+use mathlib.Core.Path.{◌≡◌, refl, sym, ap, ◌∙◌}
 use native.Mathlib.Nat.{div-add-mod'}
 use native.Mathlib.Omega.{arith}
 use borrow.Author.Tests.{le-ltb}
 use lib.Dec.{T, eqb, leb, leb→le}
-use lib.ListN.{length, get_or, take, drop, length-append}
+use lib.ListN.{length, take, drop, length-append}
 use lib.Seq.{drop_at, drop-append-add, take-append_seam}
 use Rattle.promise.proofs.Tests.{both_left, both_right}
-use Rattle.phrases.specs.Sheets.{word_at, body_of, window, Phrase, Phrases, phrase, code_in, count_in, phrases_of, phrases_from, fault, judged, place_of, place_in, Text, missing, found, text_of, text_from}
+use Rattle.phrases.specs.Sheets.{word_at, body_of, window, phrase, phrases_of, phrases_from, fault, judged, place_of, place_in, found, text_of, text_from}
 use Rattle.phrases.specs.Writing.{word_bytes, phrase_bytes, phrases_bytes, sheet_bytes, rising, look_up}
 use Rattle.phrases.proofs.Laws.{one-phrase}
 use Rattle.phrases.proofs.Cases.{judged_phrases}

@@ -1,7 +1,7 @@
 -- What the promises come to, in 02's words: which sheet a phrase comes from, how a missing phrase differs from an empty one, and that bytes past
 -- a sheet's length are not read. By cases of what the sheets have.
 use Prim.Native.Nat.{ℕ, ◌+◌, ◌-◌, ◌*◌, ◌≤◌, ◌<◌}
-use mathlib.Core.Bool.{Bool, true, false, cond, not, ◌&&◌}
+use mathlib.Core.Bool.{Bool, true, false, cond, not}
 use mathlib.Core.List.{List, [], ◌++◌}
 use mathlib.Core.Path.{◌≡◌, refl, sym, ap, ap₂, ◌∙◌}
 use native.Mathlib.Omega.{arith}
@@ -10,7 +10,7 @@ use lib.Dec.{eqb, ltb}
 use lib.ListN.{length, get_or, take, drop, length-append, length-take, length-drop, get_or-append}
 use lib.Seq.{take-append-le, drop-append-le}
 use Rattle.entry.specs.Entries.{Part}
-use Rattle.phrases.specs.Sheets.{word_at, window, body_of, phrases_of, fault, judged, judged_both, place_of, place_in, nowhere, in_sheet, find_in, Text, missing, found, text_of, or_else, text_from, text_in, both_sound, has_phrase, part_at, part_found, phrase_in}
+use Rattle.phrases.specs.Sheets.{word_at, window, body_of, phrases_of, fault, judged, place_of, place_in, nowhere, in_sheet, find_in, Text, missing, found, text_of, or_else, text_from, text_in, both_sound, has_phrase, part_at, part_found, phrase_in}
 use Rattle.phrases.specs.declared.Found.{Found}
 use Rattle.phrases.specs.declared.Place.{Place}
 use Rattle.phrases.proofs.Cases.{inside, counted, judged-zero, judged_version, judged_phrases}

@@ -7,7 +7,6 @@ use Rattle.phrases.specs.declared.Place.{Place}
 use Rattle.refusals.specs.Refusals.{bare, passed, reason_number}
 use Rattle.refusals.specs.declared.Reason.{Reason}
 use Rattle.refusals.specs.declared.Reason.TheVariants.{None, ShortSheet, BadSheetVersion, LongPhrase, CodeNotRising}
-use Rattle.refusals.specs.declared.Refusal.{Refusal}
 
 -- The bytes of a sheet.
 

@@ -1,5 +1,7 @@
 // Reads phrase sheets (#112): whether a sheet is sound, and where the phrase of a code lies in two sheets, the workshop's asked first. Bytes past
 // a sheet's length are not read.
+#![tactic(auto)]
+
 ghost use Rattle.std.specs.Prelude.{◌+◌, ◌-◌, ◌<◌, ◌≤◌, length, ◌≡◌};
 ghost use Rattle.entry.specs.Entries.{lent};
 ghost use Rattle.phrases.specs.Promises.{Finds, HasPhrase, Phrase, SheetRefusal, SheetsRefusal};
@@ -13,7 +15,7 @@ const VERSION: u8 = 1;
 const FIRST: usize = 3;
 
 // Where a phrase of one sheet lies: its bytes are start .. start + count of the sheet. Nowhere: three times 0.
-#[derive(Drop)]
+#[derive(Clone, Copy)]
 pub struct Place {
     pub start: usize,
     pub count: usize,
@@ -36,7 +38,7 @@ pub const WORKSHOP: u8 = 1;
 pub const STANDARD: u8 = 2;
 
 // Where a phrase of two sheets lies: which sheet has it, and its bytes there.
-#[derive(Drop)]
+#[derive(Clone, Copy)]
 pub struct Found {
     pub start: usize,
     pub count: usize,

@@ -1,5 +1,7 @@
 // What a reading of a value is (specs/), that a value is accepted exactly when it has one (proofs/), and the value given back from its records: the leaves
 // shifted back and added up.
+#![tactic(auto)]
+
 ghost use Rattle.std.specs.Prelude.{◌≡◌, ◌%◌, ◌^◌, ◌≤◌, take, drop, if◌then◌else◌, nat_lt};
 ghost use Rattle.reading.specs.Leaves.{shifted_back, added_up};
 ghost use Rattle.reading.specs.Promises.{SumBack};

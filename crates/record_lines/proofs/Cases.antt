@@ -1,11 +1,9 @@
--- The texts that a test or a mark tells apart, by what was found.
-use mathlib.Core.Path.{◌≡◌, sym, subst}
-use mathlib.Core.List.{List, ◌++◌}
+-- The texts that a test tells apart, by what was found.
+use mathlib.Core.Path.{◌≡◌}
+use mathlib.Core.List.{◌++◌}
 use Prim.Native.Nat.{ℕ, ◌≤◌, ◌<◌}
 use borrow.Author.Tests.{lt-ltb, le-ltb, eq-eqb, ne_eqb}
-use Rattle.buffer.specs.Appending.{Appends}
-use Rattle.records.specs.declared.Mark.{Mark}
-use Rattle.record_lines.specs.Lines.{depth_at, mark_part, text_part}
+use Rattle.record_lines.specs.Lines.{depth_at, text_part}
 use Rattle.texts.specs.Pool.{bytes, bytes_at}
 
 pub depth_top : (index : ℕ) → index < 5 → depth_at index ≡ bytes "0"
@@ -23,6 +21,3 @@ part_none code e = rw (eq-eqb code 0 e)
 pub part-text : (code : ℕ) → (code ≡ 0 → ⊥) → text_part code ≡ bytes "|" ++ bytes_at code
 unfolding text_part
 part-text code h = rw (ne_eqb code 0 h)
-
-pub word_of : {mark is : Mark} {before after : ℕ × List ℕ} → mark ≡ is → Appends (mark_part is) before after → Appends (mark_part mark) before after
-word_of {mark} {is} {before} {after} e a = subst (λ (m : Mark). Appends (mark_part m) before after) (sym e) a

@@ -1,4 +1,6 @@
 // The records of a value for machines, a line for each, and the bytes of an entry's body, in a lent buffer from an offset on.
+#![tactic(auto)]
+
 ghost use Rattle.buffer.specs.Appending.{Appends};
 ghost use Rattle.buffer.specs.InOrder.{in_order};
 ghost use Rattle.buffer.specs.Lent.{Lent};
@@ -70,6 +72,7 @@ fn put_bits(buf: &mut [u8], at: usize, item: Record) -> usize
     put_number(buf, next, Base::Hex, item.value)
 }
 
+#[tactic(auto, unfolding(crate::specs::Lines::mark_part, texts::specs::Pool::bytes))]
 fn put_mark(buf: &mut [u8], at: usize, mark: Mark) -> usize
     ensures { Appends (mark_part mark) (at, buf.old) (result, buf.new) }
 {

@@ -1,4 +1,6 @@
 // The vocabulary of a reading: fields of a value, rows, records and sets of them.
+#![tactic(auto)]
+
 ghost use Rattle.records.specs.Promises.{AsBit, At, Emptied, Field, Got, Meets, Number, Refused};
 ghost use Rattle.records.specs.Kinds.{kind_of, mark_of, reason_at};
 ghost use Rattle.records.specs.Sets.{no_record};
@@ -32,7 +34,7 @@ pub fn as_bit(v: u64, position: u8) -> bool
 }
 
 // What is known of a record's field: that nothing is asked of it, that it is on its list, that it is reserved and 0, or reserved and anything.
-#[derive(Drop)]
+#[derive(Clone, Copy)]
 pub enum Mark {
     Free,
     Coded,
@@ -81,6 +83,8 @@ fn reason_at(index: u8) -> Reason
 }
 
 // The key of the system register that an ISS of MSR and MRS names: Op0 on top, then Op1, CRn, CRm, Op2.
+// Each field is below two to its width, so that no product and no sum passes 16 bits.
+#[tactic(auto, using(crate::proofs::Laws::field_lt), unfolding(crate::specs::Subjects::key_of))]
 fn key(iss: u64) -> u16
     ensures { result ≡ key_of iss }
 {
@@ -103,7 +107,7 @@ fn subject(rule: u8, value: u64) -> u64
 }
 
 // A row of a layout; a kind is one of `kinds`. Six bytes with no gap, so that rows are copied as one block.
-#[derive(Drop)]
+#[derive(Clone, Copy)]
 pub struct Row {
     pub start: u8,
     pub width: u8,
@@ -114,7 +118,7 @@ pub struct Row {
 }
 
 // A row's field of a value, as the Rust's FieldInfo. Sixteen bytes with no gap, in the order of the C record, so that both are copied as one.
-#[derive(Drop)]
+#[derive(Clone, Copy)]
 pub struct Record {
     pub value: u64,
     pub name: u16,
@@ -191,7 +195,7 @@ fn no_record() -> Record
 }
 
 // Records in order, and slots after them that hold the empty record.
-#[derive(Drop)]
+#[derive(Clone, Copy)]
 pub struct Records {
     pub items: [Record; Records::MAX],
     pub count: usize,

@@ -1,5 +1,7 @@
 // What machines are told of one input line, byte for byte, in a lent buffer from an offset on: whether it holds a number, and the records of the
 // value or its refusal.
+#![tactic(auto)]
+
 ghost use Rattle.buffer.specs.Appending.{Appends};
 ghost use Rattle.records_reply.specs.Promises.{NumberReply, RecordsReply};
 ghost use Rattle.records_reply.specs.Replies.{decoded};

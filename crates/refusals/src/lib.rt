@@ -4,7 +4,7 @@
 ghost use Rattle.refusals.specs.Promises.{Carrying, Number, ValueNumber, ValuePlace};
 
 // The reasons, in the order of their numbers; None where nothing is refused.
-#[derive(Drop)]
+#[derive(Clone, Copy)]
 pub enum Reason {
     None,
     InvalidRes0,
@@ -78,7 +78,7 @@ impl Reason {
 
 // A reason and what it carries: 0 where 01 names nothing. InvalidRes0 also names its field, by the bit where it starts and its width; of every other
 // refusal both are 0 (#105).
-#[derive(Drop)]
+#[derive(Clone, Copy)]
 pub struct Refusal {
     pub carries: u64,
     pub start: u8,

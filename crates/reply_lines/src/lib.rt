@@ -1,5 +1,7 @@
 // The lines that every reply is made of, in a lent buffer from an offset on: one that ends with a number; a refusal by its number, and why: the
 // Rust's message where there is one, else words of our own.
+#![tactic(auto)]
+
 ghost use Rattle.buffer.specs.Appending.{Appends};
 ghost use Rattle.reply_lines.specs.Lines.{field_part};
 ghost use Rattle.reply_lines.specs.Promises.{CarriedLine, NumberLine, RefusalLine, RefusedPart, WhyPart};

@@ -1,8 +1,8 @@
 -- What the definitions give under the tests that the code made.
-use Prim.Native.Nat.{ℕ, ◌+◌, ◌-◌, ◌≤◌, ◌<◌}
+use Prim.Native.Nat.{ℕ, ◌-◌, ◌≤◌, ◌<◌}
 use mathlib.Core.Bool.{Bool, true, false, cond}
 use mathlib.Core.List.{List, [], ◌∷◌, ◌++◌}
-use mathlib.Core.Path.{◌≡◌, refl, sym, ap, ◌∙◌}
+use mathlib.Core.Path.{◌≡◌}
 use native.Mathlib.Omega.{arith}
 use borrow.Author.Tests.{lt-ltb, le-ltb}
 use lib.ListN.{length}
@@ -16,7 +16,6 @@ use Rattle.sheets.specs.Standard.{is_records}
 use Rattle.texts.specs.Pool.{bytes, bytes_at}
 use Rattle.sheet_lines.specs.Lines.{code_line, text_start, faulty, taken_of}
 use Rattle.sheet_lines.specs.declared.Fault.TheVariants.{None, NoCode, NoText, NotRising, TooLong}
-use Rattle.sheet_lines.specs.declared.Taken.{Taken}
 
 -- the number stands in its line
 before-within : (s : List ℕ) → length (before_stop s) ≤ length s

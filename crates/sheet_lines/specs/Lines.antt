@@ -1,5 +1,5 @@
 -- A sheet in lines to translate: a code in decimal, a space and its text; and such a line read back as a phrase.
-use Rattle.std.specs.Prelude.{ℕ, ◌+◌, ◌-◌, Bool, cond, not, List, [], ◌++◌, ltb, length, drop}
+use Rattle.std.specs.Prelude.{ℕ, ◌+◌, ◌-◌, cond, List, [], ◌++◌, ltb, length}
 use Rattle.digits.specs.Digits.{numeral}
 use Rattle.number.specs.Rest.{read_of}
 use Rattle.refusals.specs.Refusals.{passed}

@@ -1,4 +1,6 @@
 // The standard sheet in lines to translate, a code and its text to a line, and such a line read back as a phrase (#112).
+#![tactic(auto)]
+
 ghost use Rattle.std.specs.Prelude.{◌≤◌, length, ◌≡◌};
 ghost use Rattle.sheet_lines.specs.Lines.{faulty as faulty_of, text_start};
 ghost use Rattle.sheet_lines.specs.Promises.{CodeLinePut, LineTaken};
@@ -7,7 +9,7 @@ use buffer::{put_bytes, put_text};
 use digits::Base;
 
 // Why a line is no phrase.
-#[derive(Drop)]
+#[derive(Clone, Copy)]
 pub enum Fault {
     None,
     // it begins with no number
@@ -21,7 +23,7 @@ pub enum Fault {
 }
 
 // The text is the rest of the line, from start on; 0 where there is a fault.
-#[derive(Drop)]
+#[derive(Clone, Copy)]
 pub struct Taken {
     pub start: usize,
     pub code: u16,

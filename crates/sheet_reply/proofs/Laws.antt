@@ -20,7 +20,6 @@ use Rattle.sheet_lines.specs.declared.Fault.TheVariants.{None, NoCode, NoText, N
 use Rattle.sheet_lines.specs.declared.Taken.{Taken}
 use Rattle.sheets.specs.Standard.{is_records}
 use Rattle.sheet_reply.specs.Replies.{lines_at, is_fault, fault_words, phrase_of, adds, answer_of, added_of, head_bytes}
-use Rattle.sheet_reply.specs.declared.Added.{Added}
 
 -- One code more.
 

@@ -3,7 +3,7 @@ use Rattle.std.specs.Prelude.{ℕ, zero, suc, ◌+◌, ◌-◌, Bool, true, fals
 use Rattle.buffer.specs.Appending.{appended}
 use Rattle.digits.specs.Digits.{numeral}
 use Rattle.phrases.specs.Writing.{phrase_bytes, word_bytes}
-use Rattle.sheet_lines.specs.Lines.{code_line, taken_of}
+use Rattle.sheet_lines.specs.Lines.{code_line}
 use Rattle.sheet_lines.specs.declared.Fault.{Fault}
 use Rattle.sheet_lines.specs.declared.Fault.TheVariants.{None, NoCode, NoText, NotRising, TooLong}
 use Rattle.sheet_lines.specs.declared.Taken.{Taken}

@@ -1,4 +1,6 @@
 // What `esr sheet` writes (#112): the standard sheet in lines to translate, a sheet made of such lines, one at a time, and why a line is refused.
+#![tactic(auto)]
+
 ghost use Rattle.std.specs.Prelude.{◌-◌, ◌≤◌, drop, length};
 ghost use Rattle.buffer.specs.Appending.{Appends};
 ghost use Rattle.phrases.specs.Writing.{phrase_bytes};
@@ -16,7 +18,7 @@ const VERSION: u8 = 1;
 const PHRASES_MAX: usize = 65534;
 
 // The next offset among the phrases, the code that the next line must have at least, and why the line is refused, if it is.
-#[derive(Drop)]
+#[derive(Clone, Copy)]
 pub struct Added {
     pub next: usize,
     pub least: u32,
@@ -37,6 +39,7 @@ pub fn put_lines(buf: &mut [u8], at: usize) -> usize
 }
 
 // Whether a line is refused.
+#[tactic(auto, unfolding(crate::specs::Replies::is_fault))]
 pub fn is_fault(fault: Fault) -> bool
     ensures { IsFault fault result }
 {

@@ -3,16 +3,15 @@
 use Prim.Native.Nat.{ℕ, zero, suc, ◌+◌, ◌-◌, ◌≤◌, ◌<◌}
 use mathlib.Core.Bool.{Bool, true, false, cond, not, ◌&&◌}
 use mathlib.Core.List.{List, [], ◌∷◌, ◌++◌}
-use mathlib.Core.Path.{◌≡◌, refl, sym, ap, ◌∙◌, subst}
+use mathlib.Core.Path.{◌≡◌, refl, sym, ◌∙◌, subst}
 use native.Mathlib.Nat.{add-suc}
 use native.Mathlib.Omega.{arith}
-use borrow.Author.Tests.{le-leb, lt-leb, eq-eqb, ne_eqb, eqb-true, eqb-false, leb-true, leb-false, ltb-true, ltb-false}
+use borrow.Author.Tests.{le-leb, lt-leb, eq-eqb, ne_eqb, eqb-true, eqb-false, ltb-true, ltb-false}
 use lib.Dec.{T, eqb, leb, ltb}
-use lib.ListN.{length, get_or, get_or-eq_default}
+use lib.ListN.{length, get_or-eq_default}
 use Rattle.phrases.specs.Sheets.{Text, missing, found, judged, text_from}
 use Rattle.phrases.specs.Writing.{rising, look_up}
 use Rattle.phrases.proofs.Reading.{sound-written, read_back}
-use Rattle.promise.proofs.Tests.{is_true}
 use Rattle.refusals.specs.declared.Reason.TheVariants.{None}
 use Rattle.sheets.specs.Standard.{is_message, is_records, phrase_at, phrases_at, standard_phrases, standard_sheet}
 use Rattle.texts.specs.Pool.{name_room, texts, text_at, bytes, bytes_at}

@@ -1,4 +1,6 @@
 // Writes the standard phrase sheet from the pool (#112): every text that a record can have, by its code.
+#![tactic(auto)]
+
 ghost use Rattle.std.specs.Prelude.{◌+◌, ◌≤◌, length, ◌≡◌};
 ghost use Rattle.buffer.specs.Appending.{Appends};
 ghost use Rattle.buffer.specs.Lent.{Lent};

@@ -3,8 +3,7 @@
 use Prim.Native.Nat.{ℕ, suc}
 use mathlib.Core.Bool.{Bool, true, false, cond}
 use mathlib.Core.List.{List, [], ◌∷◌, ◌++◌}
-use mathlib.Core.Path.{◌≡◌, refl, sym, ap, ap₂, ◌∙◌}
-use borrow.Author.Tests.{eqb-true, eqb-false}
+use mathlib.Core.Path.{◌≡◌, refl, ap, ◌∙◌}
 use lib.Dec.{T, eqb}
 use Rattle.buffer.specs.InOrder.{each_from}
 use Rattle.display.specs.Listings.{found_line, text_line_with, record_lines_with, listing_with, every_text, record_lines, listing}
@@ -14,12 +13,10 @@ use Rattle.phrases.specs.Sheets.{Text, missing, found, judged, judged_both, text
 use Rattle.promise.proofs.Tests.{true_is}
 use Rattle.records.specs.Sets.{list_of}
 use Rattle.records.specs.declared.Record.{Record}
-use Rattle.refusals.specs.Refusals.{passed}
 use Rattle.refusals.specs.declared.Reason.TheVariants.{None}
 use Rattle.sheets.specs.Standard.{is_records, standard_sheet}
 use Rattle.sheets.proofs.Theorems.{standard_sound, standard_texts}
 use Rattle.texts.specs.Pool.{bytes_at}
-use Rattle.written.specs.Outcomes.{Outcome, refused, text}
 use Rattle.standard_listing.proofs.Texts.{fine, Fines, record_texts}
 
 -- A lookup that has every text of a record as the pool has it.

@@ -1,9 +1,9 @@
 -- The texts of the standard sheet are those that records can have: one computed test over the rules shows that each text of a rule that rows may name
 -- is there, one over the tables that rows name no other, and one over the codes that each is the code of a rule that a row names.
 use Prim.Native.Nat.{ℕ, suc, ◌+◌, ◌-◌, ◌≤◌, ◌<◌}
-use mathlib.Core.Bool.{Bool, true, false, cond, not, ◌&&◌, ◌||◌}
+use mathlib.Core.Bool.{Bool, true, false, cond, not, ◌&&◌}
 use mathlib.Core.List.{List, [], ◌∷◌, ◌++◌, map, Memᴰ}
-use mathlib.Core.Path.{◌≡◌, refl, sym, ap, ◌∙◌, subst}
+use mathlib.Core.Path.{◌≡◌, refl, sym, subst}
 use native.Mathlib.Omega.{arith}
 use borrow.Author.Tests.{eqb-true, ltb-true, ltb-false, not-true}
 use lib.Dec.{T, eqb, leb, ltb, eqb→eq}
@@ -13,7 +13,7 @@ use Rattle.esr.specs.Decode.{refused, accepted, records_for, answer_of}
 use Rattle.esr.specs.declared.Answer.{Answer}
 use Rattle.esr.proofs.Laws.{answer-has}
 use Rattle.promise.specs.Member.{member}
-use Rattle.promise.proofs.Tests.{both_left, both_right, both_intro, true_is, is_true, or_right, every, every-at, every_mem, from, from_at}
+use Rattle.promise.proofs.Tests.{both_left, both_right, true_is, is_true, or_right, every, every-at, every_mem, from, from_at}
 use Rattle.records.specs.Rows.{record_of}
 use Rattle.records.specs.Sets.{set_room, no_record, records_of, list_of}
 use Rattle.records.specs.Subjects.{subject}

@@ -1,8 +1,8 @@
 -- The engine's records are those of every profile that accepts a value, and a profile that refuses one has no records: by the tests of the strict answer.
 use mathlib.Core.Bool.{Bool, true, false, cond, not, ◌&&◌}
-use mathlib.Core.Path.{◌≡◌, refl, sym, ap, ap₂, ◌∙◌}
+use mathlib.Core.Path.{◌≡◌, refl}
 use Prim.Native.Nat.{ℕ}
-use borrow.Author.Tests.{eqb-true, eqb-false}
+use borrow.Author.Tests.{eqb-false}
 use Rattle.refusals.specs.Refusals.{passed, refusal_number}
 use Rattle.refusals.specs.declared.Refusal.{Refusal}
 use Rattle.records.specs.Sets.{list_of}

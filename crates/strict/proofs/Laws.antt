@@ -13,7 +13,6 @@ use lib.Seq.{drop-cons, drop-length, get_or-take, length-take-le}
 use borrow.Author.Tests.{eq-eqb, ne_eqb, ltb-true}
 use Rattle.promise.specs.Member.{member}
 use Rattle.promise.proofs.Tests.{both_left, both_right, every, every_mem, of-member, true_is}
-use Rattle.lookup.specs.Descriptions.{bit_in, bits_of}
 use Rattle.lookup.proofs.Numbers.{bits_in}
 use Rattle.refusals.specs.Refusals.{no_refusal, passed, refusal_number}
 use Rattle.refusals.specs.declared.Refusal.{Refusal}

@@ -4,7 +4,7 @@ use mathlib.Core.Bool.{Bool, true, false, cond, not, ◌&&◌, ◌||◌}
 use mathlib.Core.List.Memᴰ
 use mathlib.Core.List.{List, [], ◌∷◌, Memᴰ}
 use mathlib.Core.Path.{◌≡◌, refl, sym, ap, subst, ◌∙◌}
-use Prim.Native.Nat.{ℕ, suc}
+use Prim.Native.Nat.{ℕ}
 use lib.Dec.{T, T_not, eqb, eqb_refl, eqb→eq}
 use Rattle.promise.proofs.Tests.{both_intro, both_left, both_right, every, every_mem, false_is, true_is}
 use Rattle.texts.specs.Names.{names}
@@ -12,7 +12,6 @@ use Rattle.texts.specs.Pool.{code, index_in}
 use Rattle.refusals.specs.Refusals.{passed, reason_number, refusal_number}
 use Rattle.records.specs.Kinds.{Kind, Free, Unchecked, Checked, Coded, kind_of, mark_number, mark_of}
 use Rattle.records.specs.Rows.{record_of, row_kind}
-use Rattle.records.specs.declared.Record.{Record}
 use Rattle.records.specs.declared.Row.{Row}
 use Rattle.tables.specs.Shape.{Line}
 use Rattle.tables.specs.Tables.{top_rows, Served, layouts, res0, wf, mcr, mcrr, ldc, sve, ld64b, bti, pauth, hvc, brk, fp, breakpoint, software_step, watchpoint, instruction_abort, data_abort, serror, msr}

@@ -1,4 +1,6 @@
 // Strict reading (#110): the ordinary decoder's answer, or what the manual's stricter view refuses of a value that the ordinary decoder accepts.
+#![tactic(auto)]
+
 ghost use Rattle.std.specs.Prelude.{◌≤◌, ◌&&◌, ◌≡◌};
 ghost use Rattle.records.specs.Sets.{list_of, set_room};
 ghost use Rattle.strict.specs.Code.{fails_as, is_of_as, line_at, refusal_as};
@@ -11,7 +13,7 @@ use refusals::{Reason, Refusal};
 use texts::names as n;
 
 // How values are read: as the Rust reads them, or strictly, on a core without nested virtualisation or with it.
-#[derive(Drop)]
+#[derive(Clone, Copy)]
 pub enum Profile {
     Ordinary,
     Strict,
@@ -19,7 +21,7 @@ pub enum Profile {
 }
 
 // What a refusal tells besides its number: nothing, the field's number, or that and the field's bits.
-#[derive(Drop)]
+#[derive(Clone, Copy)]
 enum Tells {
     Nothing,
     Number,
@@ -28,7 +30,7 @@ enum Tells {
 
 // A line of the strict list: the row by its name, bits and mark; the numbers that are allowed, as bits; why another is refused, and what the refusal
 // tells; whether nested virtualisation excuses it.
-#[derive(Drop)]
+#[derive(Clone, Copy)]
 struct Line {
     allowed: u64,
     name: u16,

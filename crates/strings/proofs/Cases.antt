@@ -12,7 +12,7 @@ use Rattle.texts.specs.Rules.{message, message_end}
 use Rattle.texts.proofs.Laws.{text-described, text-short}
 use Rattle.buffer.specs.Lent.{Lent}
 use Rattle.buffer.proofs.Lent.{lent-text}
-use Rattle.digits.specs.Digits.{digits_of, unpadded, numeral}
+use Rattle.digits.specs.Digits.{digits_of, numeral}
 use Rattle.strings.specs.Fields.{value_text, binary_text, binary_suffix, field_text}
 use Rattle.strings.specs.Messages.{bits_text, message_text, message_in}
 use Rattle.digits.proofs.Numerals.{length_digits, unpadded-few}

@@ -1,5 +1,7 @@
 // The texts that need no decoding, in a lent buffer from an offset on: a field's two value strings, each alone or both as in a record's line, and
 // a refusal's message.
+#![tactic(auto)]
+
 ghost use Rattle.buffer.specs.Appending.{Appends};
 ghost use Rattle.strings.specs.Fields.{binary_text, value_text};
 ghost use Rattle.strings.specs.Messages.{bits_text};
@@ -13,7 +15,7 @@ use texts::rules;
 pub const RES0: u64 = 1;
 
 // Which of a field's two value strings.
-#[derive(Drop)]
+#[derive(Clone, Copy)]
 pub enum Form {
     Value,
     Binary,

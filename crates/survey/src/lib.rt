@@ -1,4 +1,6 @@
 // Counts a run of values: those that are accepted by class, in a lent table, and those that are refused by the number of the refusal (#101).
+#![tactic(auto)]
+
 ghost use Rattle.std.specs.Prelude.{◌+◌, ◌^◌, ◌<◌, get_or, length, replicate, set, ◌≡◌};
 ghost use Rattle.survey.specs.Promises.{OrdinaryCounts, Surveyed};
 ghost use Rattle.survey.specs.Surveys.{class_counts, is_of_class, is_refused_at, nothing, refused_counts};
@@ -14,7 +16,7 @@ const CLASSES: usize = 64;
 const LIMIT: usize = 1 << 32;
 
 // How many values each of the refusals refused that a value can have, in the order of their numbers; none where the survey itself is refused.
-#[derive(Drop)]
+#[derive(Clone, Copy)]
 pub struct Tally {
     pub refusal: Refusal,
     pub refused: [u32; VALUE_NUMBERS],

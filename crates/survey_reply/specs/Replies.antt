@@ -1,6 +1,6 @@
 -- What a survey says, byte for byte (02's #101). Its totals are a list of 74 places: the 64 classes, the numbers that a value can be refused
 -- by, and the lines that held no number.
-use Rattle.std.specs.Prelude.{ℕ, zero, suc, ◌+◌, ◌-◌, Bool, cond, not, ◌&&◌, ◌||◌, List, [], ◌++◌, eqb, leb, ltb, get_or}
+use Rattle.std.specs.Prelude.{ℕ, zero, suc, ◌-◌, Bool, cond, not, ◌&&◌, ◌||◌, List, [], ◌++◌, eqb, leb, ltb, get_or}
 use Rattle.digits.specs.Digits.{digits_of, numeral}
 use Rattle.refusals.specs.Values.{value_number}
 use Rattle.texts.specs.Pool.{bytes}

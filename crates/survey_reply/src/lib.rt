@@ -1,4 +1,6 @@
 // What a survey says, a line to a place of its totals, and what such a line says when it is read back; sums of what several surveys counted (#101).
+#![tactic(auto)]
+
 ghost use Rattle.std.specs.Prelude.{◌+◌, ◌^◌, ◌<◌, ◌≤◌, get_or, length, ◌&&◌, ◌≡◌};
 ghost use Rattle.buffer.specs.Appending.{Appends};
 ghost use Rattle.number.specs.Numbers.{starts_with};
@@ -23,7 +25,7 @@ pub const PLACES: usize = NO_NUMBER + 1;
 const FRONT_MAX: usize = 16;
 
 // A line of a survey read back: its place and its count; or it is none of a survey's, and both are 0.
-#[derive(Drop)]
+#[derive(Clone, Copy)]
 pub struct Count {
     pub count: u64,
     pub place: usize,
@@ -31,7 +33,7 @@ pub struct Count {
 }
 
 // The place whose label begins a line, and the offset of the line's count.
-#[derive(Drop)]
+#[derive(Clone, Copy)]
 struct Labelled {
     place: usize,
     next: usize,

@@ -1,1 +1,2 @@
 // 01's tables of rows, in specs/. No code.
+#![tactic(auto)]

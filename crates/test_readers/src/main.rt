@@ -6,12 +6,14 @@
 //   'f'  numbers at the front (#107): the same
 //   'n'  whole numbers: what begins with these bytes and goes on with 0xFF, of each length
 //   'e'  entries: the same
+#![tactic(auto)]
+
 ghost use Rattle.std.specs.Prelude.{◌≡◌, ◌<◌, length};
 
 use buffer::put_bytes;
 use digits::{Base, put_number};
-use libc::STDOUT_FILENO;
 use refusals::Refusal;
+use streams::{STDIN, STDOUT};
 
 const HEAD: usize = 9;
 
@@ -25,13 +27,13 @@ const WORDS: u64 = 0x1000000;
 
 const WIDTH: usize = 64;
 
-#[derive(Drop)]
+#[derive(Clone, Copy)]
 struct Line {
     bytes: [u8; WIDTH],
     length: usize,
 }
 
-#[derive(Drop)]
+#[derive(Clone, Copy)]
 struct Run {
     line: Line,
     count: u64,
@@ -41,12 +43,12 @@ fn say_run(run: Run) {
     if run.count == 0 {
         return;
     }
-    io::print_decimal(STDOUT_FILENO, run.count);
-    io::write_all(STDOUT_FILENO, b" ");
+    io::print_decimal(STDOUT, run.count);
+    io::write_all(STDOUT, b" ");
     let line = run.line;
     let bytes = line.bytes;
     streams::flush(&bytes, line.length);
-    io::write_all(STDOUT_FILENO, b"\n");
+    io::write_all(STDOUT, b"\n");
 }
 
 fn with_line(run: Run, line: Line) -> Run {
@@ -270,7 +272,7 @@ fn answer(requests: &[u8], block: &mut [u8]) -> Run {
 
 fn main() {
     let mut requests = io::large_buffer();
-    let n = io::read_full(0, &mut requests);
+    let n = io::read_full(STDIN, &mut requests);
     let mut block = room();
     say_run(answer(&requests[0..n], &mut block));
 }

@@ -2,12 +2,14 @@
 // record and of two indices past the last, and the two value strings of each record. Then, once, value strings and messages at and past
 // the ends of what is accepted. Each call is made again in buffers of five lengths, which are parts of a room full of one byte: what is
 // answered, and what the whole room then holds, has to follow from the text or the refusal that was printed.
+#![tactic(auto)]
+
 ghost use Rattle.std.specs.Prelude.{◌≡◌, length};
 
-use libc::STDOUT_FILENO;
 use number::{Number, NumberState};
 use records::{Record, Records};
 use refusals::Refusal;
+use streams::{STDIN, STDOUT};
 use written::Written;
 
 // Longer than any listing by more than MORE: a part of it that a call wants and it has not counts as wrong.
@@ -36,7 +38,7 @@ const VALUE: u8 = 3;
 const BINARY: u8 = 4;
 
 // A function, and what it is called with; only a message has a start and a width.
-#[derive(Drop)]
+#[derive(Clone, Copy)]
 struct Call {
     function: u8,
     first: u64,
@@ -67,7 +69,7 @@ fn made(call: Call, buf: &mut [u8]) -> Written {
 }
 
 // An answer in numbers; that of the refusal is 0 where there is none. The prover is quicker with these than with the reason.
-#[derive(Drop)]
+#[derive(Clone, Copy)]
 struct Told {
     number: u64,
     carried: u64,
@@ -184,7 +186,7 @@ fn with_lengths(tally: u64, call: Call, whole: Told, left: &[u8; ROOM]) -> u64 {
 }
 
 fn say(text: &[u8]) {
-    io::write_all(STDOUT_FILENO, text);
+    io::write_all(STDOUT, text);
 }
 
 fn end_line() {
@@ -197,16 +199,16 @@ fn space() {
 
 fn say_number(name: &[u8], number: u64) {
     say(name);
-    io::print_decimal(STDOUT_FILENO, number);
+    io::print_decimal(STDOUT, number);
 }
 
 fn say_hex(name: &[u8], number: u64) {
     say(name);
-    io::print_hex(STDOUT_FILENO, number, 1);
+    io::print_hex(STDOUT, number, 1);
 }
 
 fn say_index(index: usize) {
-    io::print_decimal(STDOUT_FILENO, index as u64);
+    io::print_decimal(STDOUT, index as u64);
     space();
 }
 
@@ -431,7 +433,7 @@ fn say_tally(tally: u64) {
 
 fn main() {
     let mut given = io::large_buffer();
-    let n = io::read_full(0, &mut given);
+    let n = io::read_full(STDIN, &mut given);
     let mut tally = say_given(0, &given[0..n]);
     tally = say_far_widths(say_widths(tally));
     say_tally(say_far_bits(say_far_messages(say_messages(tally))));

@@ -1,6 +1,8 @@
 // Torn entries on their whole way, through read_entry and decode. Standard input has sound entries of every layout; each is torn in every
 // way below, and what is still accepted is counted. Erased flash reads 0xFF, so what was not written is all ones.
-use libc::STDOUT_FILENO;
+#![tactic(auto)]
+
+use streams::{STDIN, STDOUT};
 
 const SIZE: usize = 13;
 
@@ -11,7 +13,7 @@ const LOWER: usize = 9;
 
 // How many entries were tried, how many of them differ from the sound entry and how many of those are accepted; the ESR of the first
 // accepted one, before and after.
-#[derive(Drop)]
+#[derive(Clone, Copy)]
 struct Tally {
     tried: u64,
     changed: u64,
@@ -110,12 +112,12 @@ impl Tally {
 }
 
 fn say_count(name: &[u8], count: u64) {
-    io::write_all(STDOUT_FILENO, name);
-    io::print_decimal(STDOUT_FILENO, count);
+    io::write_all(STDOUT, name);
+    io::print_decimal(STDOUT, count);
 }
 
 // What becomes of an entry: nothing, or the ways in which it is torn.
-#[derive(Drop)]
+#[derive(Clone, Copy)]
 enum Way {
     Whole,
     EitherWord,
@@ -150,22 +152,22 @@ fn say_tally(name: &[u8], tally: Tally) {
     say_count(name, tally.tried);
     say_count(b" changed ", tally.changed);
     say_count(b" accepted ", tally.accepted);
-    io::write_all(STDOUT_FILENO, b"\n");
+    io::write_all(STDOUT, b"\n");
     if tally.accepted == 0 {
         return;
     }
-    io::write_all(STDOUT_FILENO, b"first accepted 0x");
-    io::print_hex(STDOUT_FILENO, tally.before, 1);
-    io::write_all(STDOUT_FILENO, b" as 0x");
-    io::print_hex(STDOUT_FILENO, tally.after, 1);
-    io::write_all(STDOUT_FILENO, b"\n");
+    io::write_all(STDOUT, b"first accepted 0x");
+    io::print_hex(STDOUT, tally.before, 1);
+    io::write_all(STDOUT, b" as 0x");
+    io::print_hex(STDOUT, tally.after, 1);
+    io::write_all(STDOUT, b"\n");
 }
 
 fn report(blocks: &[u8]) {
     let whole = counts_of(blocks, Way::Whole);
     say_count(b"entries ", whole.tried);
     say_count(b" accepted ", whole.accepted);
-    io::write_all(STDOUT_FILENO, b"\n");
+    io::write_all(STDOUT, b"\n");
     say_tally(b"either word all ones ", counts_of(blocks, Way::EitherWord));
     say_tally(
         b"a prefix of the entry written ",
@@ -179,6 +181,6 @@ fn report(blocks: &[u8]) {
 
 fn main() {
     let mut room = io::large_buffer();
-    let n = io::read_full(0, &mut room);
+    let n = io::read_full(STDIN, &mut room);
     report(&room[0..n]);
 }

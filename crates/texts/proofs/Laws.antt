@@ -10,7 +10,7 @@ use native.Mathlib.Numerals.{add-one}
 use native.Mathlib.Omega.{arith}
 use lib.Dec.{T, eqb, ltb, leb, ltb→lt, leb→le, eqb→eq}
 use lib.ListN.{length, get_or, take, drop, replicate, length-append, length-replicate, get_or-append, get_or-eq_default}
-use lib.Seq.{get_or-append-add, drop-append_seam, take-append_seam, get_or-take, get_or-drop}
+use lib.Seq.{get_or-append-add, drop-append_seam, take-append_seam}
 use lib.Text.{eqt}
 use borrow.Author.Tests.{ltb-true, ltb-false, eqb-true}
 use Rattle.promise.proofs.Tests.{both_left, both_right, every, every-at}

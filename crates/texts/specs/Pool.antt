@@ -1,6 +1,6 @@
 -- The pool: names, then the texts of each rule by value, end to end; where each starts; the codes of names and texts.
 use Prim.Native.Char as C
-use Rattle.std.specs.Prelude.{ℕ, zero, suc, ◌+◌, ◌-◌, Bool, true, false, cond, List, [], ◌∷◌, ◌++◌, eqb, ltb, length, get_or, take, replicate}
+use Rattle.std.specs.Prelude.{ℕ, zero, suc, ◌+◌, ◌-◌, Bool, true, false, cond, List, [], ◌∷◌, ◌++◌, eqb, length, get_or, take, replicate}
 use Prim.Native.String.{String}
 use Prim.Native.String as S
 use lib.Text.{eqt}

@@ -1,4 +1,6 @@
 // The fields of a value that can be set, and which of them a word means: by its name, or by the number of its lowest bit (#114).
+#![tactic(auto)]
+
 ghost use Rattle.std.specs.Prelude.{◌≤◌, ◌≡◌};
 ghost use Rattle.buffer.specs.Lent.{part_in};
 ghost use Rattle.texts.specs.Pool.{bytes_at};
@@ -13,7 +15,7 @@ use records::Row;
 const ABOVE: usize = 3;
 
 // How many fields are meant, and the index of the last of them.
-#[derive(Drop)]
+#[derive(Clone, Copy)]
 pub struct Place {
     pub count: usize,
     pub index: usize,

@@ -1,4 +1,6 @@
 // What `esr turn` says, byte for byte, in a lent buffer from an offset on: the value with one leaf set, by the maker, or why there is none (#114).
+#![tactic(auto)]
+
 ghost use Rattle.std.specs.Prelude.{◌<◌, length, get_or, ◌≡◌};
 ghost use Rattle.turn_reply.specs.Promises.{NotBoth, TurnReply};
 ghost use Rattle.turn_reply.specs.Turns.{Said, made_of, turned};

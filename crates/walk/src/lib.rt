@@ -1,5 +1,7 @@
 // Walks over a fault block: how many entries it holds and how many of their values decode, what was skipped from each to the next, and where and
 // why the walk ends.
+#![tactic(auto)]
+
 ghost use Rattle.std.specs.Prelude.{◌≡◌, ◌-◌, ◌≤◌, ◌++◌, length, drop, if◌then◌else◌};
 ghost use Rattle.walk.specs.Promises.{BlockWalked};
 ghost use Rattle.walk.specs.Walks.{decoded_in, decodes, end_refusal, entries_of, over, refusing, skipped, steps_in};
@@ -18,7 +20,7 @@ pub const ENTRY_SIZE: usize = 13;
 const ERASED: u8 = 0xFF;
 
 // Where the walk ended, and by which bad entry, if any; or why there was none, all else being 0.
-#[derive(Drop)]
+#[derive(Clone, Copy)]
 pub struct Walked {
     pub entries: usize,
     pub decoded: usize,
@@ -27,7 +29,7 @@ pub struct Walked {
     pub refusal: Refusal,
 }
 
-#[derive(Drop)]
+#[derive(Clone, Copy)]
 struct Counts {
     entries: usize,
     decoded: usize,

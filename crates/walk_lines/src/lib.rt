@@ -1,5 +1,7 @@
 // The lines that tell a walk over a fault block, in a lent buffer from an offset on: one for an entry, one for what was skipped after it, the counts,
 // and where and why the walk ended.
+#![tactic(auto)]
+
 ghost use Rattle.buffer.specs.Appending.{Appends};
 ghost use Rattle.walk_lines.specs.Lines.{bad_end, meaning, numbers_part, place, sound_end, verdict};
 ghost use Rattle.walk_lines.specs.Promises.{CountLine, EndLine, EntryLine, StepLine};

@@ -1,5 +1,7 @@
 // What a workshop is told of a fault block, byte for byte, in a lent buffer from an offset on: a line for each entry, what was lost between two, the
 // counts, and where and why the walk ended; or why it is not walked.
+#![tactic(auto)]
+
 ghost use Rattle.buffer.specs.InOrder.{in_order};
 ghost use Rattle.buffer.specs.Appending.{Appends};
 ghost use Rattle.walk.specs.Walks.{entries_of};

@@ -1,5 +1,7 @@
 // What is written at the front of a lent buffer: a field's two value strings, and a refusal's message. The whole text is measured first, by an
 // appender without a buffer; then it is refused or written. A refusal leaves the buffer as it was.
+#![tactic(auto)]
+
 ghost use Rattle.strings.specs.Messages.{message_text};
 ghost use Rattle.written.specs.Outcomes.{Answers, text};
 ghost use Rattle.written.specs.Promises.{BinaryString, Message, ValueString, WrittenRefused};
@@ -11,7 +13,7 @@ use strings::{Form, RES0, put_message, put_string};
 use texts::rules;
 
 // The bytes written; on a refusal 0, and ShortBuffer carries the bytes needed.
-#[derive(Drop)]
+#[derive(Clone, Copy)]
 pub struct Written {
     pub refusal: Refusal,
     pub bytes: usize,

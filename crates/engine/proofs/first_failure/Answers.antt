@@ -1,0 +1,36 @@
+-- The invariant: what is left of the checks answers as all of them do.
+use mathlib.Core.Path.{sym, ap, ◌∙◌, subst}
+use Prim.Native.Nat.{ℕ}
+use native.Mathlib.Omega.{arith}
+use lib.Dec.{T}
+use Rattle.records.specs.Rows.{refusal_of}
+use Rattle.engine_table.specs.Packed.{row_word}
+use Rattle.engine.specs.Engine.{direct}
+use Rattle.engine.proofs.Laws.{check-fails, check-passes, checks-done}
+use Rattle.engine.proofs.Direct.{row-direct}
+use Rattle.engine.proofs.first_failure.Goals as goal
+
+pub fails-requires : goal.fails-requires
+fails-requires c = subst (λ (n : ℕ). T (direct n)) (sym c.row_word-word.ensures) (row-direct c.byte.result)
+
+pub returns-then-fails : goal.returns-then-fails
+returns-then-fails c =
+    let a = c.args in
+    c.refusal.ensures
+    ∙ ap (refusal_of a.iss) c.row_in.ensures
+    ∙ sym
+    (c.loop-left.invariant
+    ∙ check-fails a.answers a.iss c.loop-left.rest c.loop-left.left c.row_word-word.result (omega arith)
+    (c.row_word-word.ensures ∙ ap row_word c.byte.ensures) (sym c.fails.ensures ∙ c.if-fails.true))
+
+pub loop-left-preserved : goal.loop-left-preserved
+loop-left-preserved c =
+    let a = c.args in
+    c.loop-left.invariant
+    ∙ check-passes a.answers a.iss c.loop-left.rest c.loop-left.left c.row_word-word.result (omega arith)
+    (c.row_word-word.ensures ∙ ap row_word c.byte.ensures) (sym c.fails.ensures ∙ c.if-fails.false)
+
+pub returns : goal.returns
+returns c =
+    let a = c.args in
+    sym (c.loop-left.invariant ∙ checks-done a.answers a.iss c.loop-left.rest c.loop-left.left (omega arith))

@@ -1,0 +1,9 @@
+-- Each turn passes a line feed, so what is left of the part falls; the line and the totals keep their lengths.
+use Rattle.std.proofs.Common.{◌≡◌, ◌-◌, length}
+use Rattle.esr_survey_sum.proofs.add_part.Given as goal
+
+abbrev pub invariant-loop-next : goal.invariant-loop-next
+invariant-loop-next l = (length l.line ≡ length l.initial.line) × (length l.totals ≡ length l.initial.totals)
+
+abbrev pub decreases-loop-next : goal.decreases-loop-next
+decreases-loop-next l = length l.part - l.next

@@ -1,0 +1,22 @@
+-- By whether the standard sheet has the code; its line is four appenders.
+use mathlib.Core.Path.{sym, ◌∙◌}
+use native.Mathlib.Omega.{arith}
+use Rattle.buffer.proofs.Appending.{none, and_then}
+use Rattle.buffer.proofs.Lent.{lent-text}
+use Rattle.texts.specs.Pool.{bytes}
+use Rattle.sheet_lines.proofs.Laws.{no_line, a-line}
+use Rattle.sheet_lines.proofs.put_code_line.Goals as goal
+
+pub returns-then-not-is_records : goal.returns-then-not-is_records
+returns-then-not-is_records c =
+    let a = c.args in
+    rw (no_line a.code (sym c.is_records.ensures ∙ c.if-not-is_records.true)) (none (omega arith))
+
+pub returns : goal.returns
+unfolding bytes
+returns c =
+    let a = c.args in
+    let own = lent-text a.code (record { whole = c.pool_bytes-pool.ensures; each = c.text_starts-starts.ensures }) in
+    let text = rw own at c.put_text-c.ensures in
+    rw (a-line a.code (sym c.is_records.ensures ∙ c.if-not-is_records.false))
+    (and_then c.put_number-a.ensures (and_then c.put_bytes-b.ensures (and_then text c.put_bytes.ensures)))
