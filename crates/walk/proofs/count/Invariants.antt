@@ -1,4 +1,5 @@
--- The invariant: those counted so far and those of what is left are all. An entry has 13 bytes, so that no count passes the block's length.
+-- The invariant: those counted so far and those of what is left are all. An entry has 13 bytes, so that no count
+-- passes the block's length.
 use Rattle.std.proofs.Common.{◌≡◌, ◌+◌, ◌-◌, ◌≤◌, length, drop}
 use Rattle.walk.specs.Walks.{decoded_in, entries_of}
 use Rattle.walk.proofs.count.Given as goal

@@ -9,4 +9,5 @@ returns-then-is_over c = sym (end-over _ (sym c.is_over.ensures ∙ c.if-is_over
 
 pub returns : goal.returns
 returns c =
-    ap (λ (x : Entry). x.refusal) c.read_entry-entry.ensures ∙ sym (end_bad _ (sym c.is_over.ensures ∙ c.if-is_over.false))
+    ap (λ (x : Entry). x.refusal) c.read_entry-entry.ensures ∙ sym
+    (end_bad _ (sym c.is_over.ensures ∙ c.if-is_over.false))

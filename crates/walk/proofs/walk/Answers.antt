@@ -21,11 +21,14 @@ returns-then-block-gt-LIMIT c =
 pub returns-then-steps-needed : goal.returns-then-steps-needed
 returns-then-steps-needed c =
     let a = c.args in
-    ap (λ (w : Walked). (w, a.steps.now)) (c.refuse-then-steps-needed.ensures ∙ ap refusing c.carrying-then-steps-needed.ensures)
-    ∙ sym (walk_short a.profile a.block.now a.steps.now c.steps_of-needed.result c.if-block-gt-LIMIT.false (needed c.args.block.now c.steps_of-needed.ensures c.count-counts.ensures.0) c.if-steps-needed.true)
+    ap (λ (w : Walked). (w, a.steps.now)) (c.refuse-then-steps-needed.ensures
+    ∙ ap refusing c.carrying-then-steps-needed.ensures)
+    ∙ sym (walk_short a.profile a.block.now a.steps.now c.steps_of-needed.result c.if-block-gt-LIMIT.false
+    (needed c.args.block.now c.steps_of-needed.ensures c.count-counts.ensures.0) c.if-steps-needed.true)
 
 pub write_steps-requires : goal.write_steps-requires
-write_steps-requires c = omega (arith, needed c.args.block.now c.steps_of-needed.ensures c.count-counts.ensures.0, c.if-steps-needed.false)
+write_steps-requires c =
+    omega (arith, needed c.args.block.now c.steps_of-needed.ensures c.count-counts.ensures.0, c.if-steps-needed.false)
 
 pub overflow_mul-offset : goal.overflow_mul-offset
 overflow_mul-offset c = omega (arith, fits c.args.block.now c.count-counts.ensures.0, c.if-block-gt-LIMIT.false)
@@ -41,6 +44,8 @@ returns c =
     let a = c.args in
     let s = a.block.now in
     ap₂ (λ (x : Walked) (l : List ℕ). (x, l))
-    (walked-is a.profile s _ _ _ _ c.count-counts.ensures.0 c.count-counts.ensures.1 (rest s (13 * c.count-counts.result.entries)) c.end_refusal.ensures)
+    (walked-is a.profile s _ _ _ _ c.count-counts.ensures.0 c.count-counts.ensures.1
+    (rest s (13 * c.count-counts.result.entries)) c.end_refusal.ensures)
     c.write_steps.ensures
-    ∙ sym (walk_whole a.profile s a.steps.now c.steps_of-needed.result c.if-block-gt-LIMIT.false (needed c.args.block.now c.steps_of-needed.ensures c.count-counts.ensures.0) c.if-steps-needed.false)
+    ∙ sym (walk_whole a.profile s a.steps.now c.steps_of-needed.result c.if-block-gt-LIMIT.false
+    (needed c.args.block.now c.steps_of-needed.ensures c.count-counts.ensures.0) c.if-steps-needed.false)
