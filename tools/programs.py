@@ -28,7 +28,6 @@ SUM = ["survey", "--add"]
 PROGRAMS = (LISTING, *COMMANDS.values(), "esr_survey_sum")
 STDERR = 2
 TURN = 0.2  # seconds between two looks at a build
-MOST_JOBS = 4
 
 
 class Failure(Exception):
@@ -87,17 +86,12 @@ def is_newest(file, paths):
     return file.is_file() and all(path.stat().st_mtime <= file.stat().st_mtime for path in paths)
 
 
-def processors():
-    """How many crates are proved at a time. Not more than rt's own limit: a proof takes up to 1.4 GB."""
-    return min(MOST_JOBS, len(os.sched_getaffinity(0)))
-
-
 def job(crate):
     """Begins to prove a crate whose needs are proved; a program is compiled too, and its module kept."""
     JOBS.mkdir(parents=True, exist_ok=True)
     command = retarget.keeping(crate) if crate in PROGRAMS else repository.proving(crate)
     with (JOBS / crate).open("wb") as said:
-        return subprocess.Popen(command, cwd=repository.folder(crate), stdin=subprocess.DEVNULL, stdout=said, stderr=said, start_new_session=True)
+        return subprocess.Popen([str(word) for word in command], cwd=repository.folder(crate), stdin=subprocess.DEVNULL, stdout=said, stderr=said, start_new_session=True)
 
 
 def end(number, running):
@@ -137,7 +131,7 @@ def prove(programs):
     with LOG.open("wb") as log, catching() as came:
         while running or (left and not failed):
             ready = [crate for crate in left if not failed and set(crates[crate]) <= set(done)]
-            for crate in ready[: processors() - len(running)]:
+            for crate in ready[: repository.processors() - len(running)]:
                 left.remove(crate)
                 running[crate] = job(crate)
             if is_watched():

@@ -6,6 +6,7 @@ are built by the toolchain's `rattle` itself, over those libraries: rt has no wa
     tools/repository.py --by-ci     notes that `rt ci` has just proved every crate, here or where this is a copy of: what it left in crates/*/out/ is then taken as it is, as long as no
                                 source, and not the prover, is another than now"""
 import hashlib
+import os
 import re
 import shutil
 import subprocess
@@ -16,6 +17,8 @@ TOP = Path(__file__).resolve().parent.parent
 CRATES = TOP / "crates.txt"
 BY_CI = TOP / "target" / "by-ci"
 PARTS = ("src", "specs", "proofs")
+# What is proved at a time. Not more than rt's own limit: a proof takes up to 1.4 GB.
+MOST_JOBS = 4
 # NAME, what kind it is, what is counted of it, and the libraries that it names.
 ROW = re.compile(r"([\w-]+)(?: +(?:staticlib|wasm64))?(?: +\w+=\S+)* *(?::(.*))?")
 
@@ -131,7 +134,11 @@ def program(crate):
     return path
 
 
-def words_of(command, crate):
+def processors():
+    return min(MOST_JOBS, len(os.sched_getaffinity(0)))
+
+
+def words_of(command, crate, jobs=1):
     """A command of rattle on a crate, in its folder or that of a copy, over the libraries below it as they stand in their folders."""
     own, home = needs(), kit()
     root = "main" if (folder(crate) / "src" / "main.rt").is_file() else "lib"
@@ -144,12 +151,12 @@ def words_of(command, crate):
     for library in rests_on(crate):
         if library != crate:
             words += ["-L", f"dependency={rlib(library).parent}"]
-    return [*words, "--antt-project", home / "rattle" / "logic" / "antt-project.json", "--logic-built", home / "logic_built", "--jobs", "1", "--links", f"{crate}="]
+    return [*words, "--antt-project", home / "rattle" / "logic" / "antt-project.json", "--logic-built", home / "logic_built", "--jobs", jobs, "--links", f"{crate}="]
 
 
-def building(crate, *more):
+def building(crate, *more, jobs=1):
     """The command that proves and builds a crate, in its folder."""
-    return [*words_of("build", crate), "--incremental", "out/incremental", *more]
+    return [*words_of("build", crate, jobs), "--incremental", "out/incremental", *more]
 
 
 def checking(crate):

@@ -178,11 +178,11 @@ def module_of(name):
     return ROOM / f"{name}.bc"
 
 
-def keeping(name, *kind):
+def keeping(name, *kind, jobs=1):
     """The command that proves a crate, over the libraries below it, and compiles it so that its module is kept."""
     module_of(name).parent.mkdir(parents=True, exist_ok=True)
     module_of(name).unlink(missing_ok=True)
-    return [*repository.building(name, *kind, f"--cpu={CPU}"), "--toolchain", shadow(module_of(name)), "-o", ROOM / f"{name}.o"]
+    return [*repository.building(name, *kind, f"--cpu={CPU}", jobs=jobs), "--toolchain", shadow(module_of(name)), "-o", ROOM / f"{name}.o"]
 
 
 def kept(name):
@@ -392,7 +392,7 @@ def archived(name, sizes, paths, browser=None):
     of the struct that each returns."""
     tools = toolchain()
     repository.below(name)
-    run(*keeping(name, "--crate-type", "staticlib"), cwd=repository.folder(name))
+    run(*keeping(name, "--crate-type", "staticlib", jobs=repository.processors()), cwd=repository.folder(name))
     module = kept(name)
     text = text_of(module, tools)
     understood(text)
