@@ -1,14 +1,12 @@
 -- What the decoder refuses is refused, and a value that it accepts is the answer.
-use Rattle.std.proofs.Common.{◌≡◌, ℕ, cond, sym, refl, ap, ◌∙◌, subst, rules}
+use Rattle.std.proofs.Common.{◌≡◌, ℕ, cond, refl, ◌∙◌, subst}
 use Rattle.refusals.specs.Refusals.{refusal_number, passed}
-use Rattle.refusals.specs.declared.Refusal.{Refusal}
 use Rattle.refusals.proofs.Cases.{passed_yes, passed_no}
 use Rattle.esr.specs.Decode.{answer_of}
 use Rattle.esr.specs.declared.Answer.{Answer}
 use Rattle.maker.specs.Making.{nothing, judged}
 use Rattle.maker.specs.declared.Made.{Made}
-use Rattle.maker.proofs.judge.Statement.{statement}
-use Rattle.maker.proofs.judge.Tie as tie
+use Rattle.maker.proofs.judge.Goals as goal
 
 module _ (v : ℕ) (a : Answer) (is : a ≡ answer_of v) (n : ℕ) (number : n ≡ refusal_number a.refusal) where
   abbrev Judged : Made → Answer → Type 0
@@ -22,17 +20,13 @@ module _ (v : ℕ) (a : Answer) (is : a ≡ answer_of v) (n : ℕ) (number : n �
   unfolding judged
   accepts h = subst (Judged (record { value = v; refusal = a.refusal })) is (rw (passed_yes a.refusal number h) refl)
 
-returns : tie.Need-returns
+pub returns-then-number-ne0 : goal.returns-then-number-ne0
+returns-then-number-ne0 c =
+    c.refuse.ensures
+    ∙ refuses c.args.value c.decode-answer.result c.decode-answer.ensures c.number.result c.number.ensures
+    c.if-number-ne0.true
+
+pub returns : goal.returns
 returns c =
-    let n = c.before.before in
-    let d = n.before.before in
-    c.refuse.ensures ∙ refuses d.before.args.value d.decode.result d.decode.ensures n.number.result n.number.ensures c.before.if1.true
-
-returns-2 : tie.Need-returns-2
-returns-2 c =
-    let n = c.before in
-    let d = n.before.before in
-    accepts d.before.args.value d.decode.result d.decode.ensures n.number.result n.number.ensures c.if1.false
-
-pub judge-spec : {M : Type 1} → statement M
-judge-spec = tie.close (tie.spec (λ c κs. search rules) (λ c κs. search rules) (λ c κs. search rules) returns returns-2)
+    accepts c.args.value c.decode-answer.result c.decode-answer.ensures c.number.result c.number.ensures
+    c.if-number-ne0.false

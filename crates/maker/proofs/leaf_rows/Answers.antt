@@ -1,5 +1,5 @@
 -- Where the layout has no row, ISS is put in the first place; elsewhere the layout's rows are the leaves' own.
-use Rattle.std.proofs.Common.{◌≡◌, ℕ, ◌<◌, List, [], ◌∷◌, length, take, set, sym, refl, ap, ◌∙◌, subst, arith, length-set, length-take-le, rules}
+use Rattle.std.proofs.Common.{◌≡◌, ℕ, ◌<◌, List, [], ◌∷◌, length, take, set, sym, refl, ap, ◌∙◌, arith, length-set, length-take-le}
 use Rattle.texts.specs.Names.{names}
 use Rattle.texts.specs.Pool.{code, index_in}
 use Rattle.records.specs.declared.Row.{Row}
@@ -12,8 +12,7 @@ use Rattle.layouts.proofs.Indices.{Fits, layout-fits, layout-rows}
 use Rattle.layout_sets.specs.Fitting.{leaf_rows}
 use Rattle.layout_sets.specs.Outcomes.{outcome_of}
 use Rattle.maker.specs.Laid.{rows_at}
-use Rattle.maker.proofs.leaf_rows.Statement.{statement}
-use Rattle.maker.proofs.leaf_rows.Tie as tie
+use Rattle.maker.proofs.leaf_rows.Goals as goal
 
 first-set : (rows : List Row) (r : Row) → 0 < length rows → take 1 (set rows 0 r) ≡ r ∷ []
 first-set [] r h = absurd (omega arith)
@@ -26,7 +25,8 @@ own-rows t (r ∷ rs) h = refl
 no_rows : (t : Table) (rows : List Row) → rows ≡ [] → iss_under t.iss_rule ∷ [] ≡ leaf_rows t rows
 no_rows t rows e = ap (leaf_rows t) (sym e)
 
-module _ (number index iss : ℕ) (at : iss ≡ outcome_of index) (l : Layout) (is : l ≡ layout_for (table_of number) iss) where
+module _ (number index iss : ℕ) (at : iss ≡ outcome_of index) (l : Layout)
+    (is : l ≡ layout_for (table_of number) iss) where
   here : l ≡ layout_for (table_of number) (outcome_of index)
   here = is ∙ ap (layout_for (table_of number)) at
 
@@ -46,40 +46,35 @@ module _ (number index iss : ℕ) (at : iss ≡ outcome_of index) (l : Layout) (
 
   pub divided : (l.count ≡ 0 → ⊥) → take l.count l.rows ≡ rows_at number index
   divided h =
-      let rows : take l.count l.rows ≡ rows_for (table_of number) (outcome_of index) = layout-rows number (outcome_of index) l here in
-      let long : length (take l.count l.rows) ≡ l.count = length-take-le l.count l.rows (omega (arith, fits.few, fits.long)) in
-      rows ∙ sym (own-rows (table_of number) (rows_for (table_of number) (outcome_of index)) (λ e. h (sym long ∙ ap length rows ∙ e)))
+      let rows : take l.count l.rows ≡ rows_for (table_of number) (outcome_of index) =
+      layout-rows number (outcome_of index) l here in
+      let long : length (take l.count l.rows) ≡ l.count =
+      length-take-le l.count l.rows (omega (arith, fits.few, fits.long)) in
+      rows
+      ∙ sym (own-rows (table_of number) (rows_for (table_of number) (outcome_of index))
+      (λ e. h (sym long ∙ ap length rows ∙ e)))
 
-returns : tie.Need-returns
+pub returns-then-layout-eq0 : goal.returns-then-layout-eq0
 unfolding code index_in names
-returns c =
-    let l = c.before.before.before in
-    let o = l.before in
-    let a = o.before.args in
+returns-then-layout-eq0 c =
+    let a = c.args in
     record {
       few = omega arith;
-      long = length-set l.layout_of.result.rows 0 _ ∙ (fits a.number a.index o.outcome.result o.outcome.ensures l.layout_of.result l.layout_of.ensures).long;
-      rows = undivided a.number a.index o.outcome.result o.outcome.ensures l.layout_of.result l.layout_of.ensures c.if1.true;
+      long = length-set c.layout_of-layout.result.rows 0 _
+          ∙
+          (fits a.number a.index c.outcome.result c.outcome.ensures c.layout_of-layout.result c.layout_of-layout.ensures).long;
+      rows = undivided a.number a.index c.outcome.result c.outcome.ensures c.layout_of-layout.result
+          c.layout_of-layout.ensures c.if-layout-eq0.true;
     }
 
-returns-2 : tie.Need-returns-2
-returns-2 c =
-    let l = c.before.before.before.before in
-    let o = l.before in
-    let a = o.before.args in
+pub returns : goal.returns
+returns c =
+    let a = c.args in
     record {
-      few = (fits a.number a.index o.outcome.result o.outcome.ensures l.layout_of.result l.layout_of.ensures).few;
-      long = (fits a.number a.index o.outcome.result o.outcome.ensures l.layout_of.result l.layout_of.ensures).long;
-      rows = divided a.number a.index o.outcome.result o.outcome.ensures l.layout_of.result l.layout_of.ensures c.before.if1.false;
+      few =
+          (fits a.number a.index c.outcome.result c.outcome.ensures c.layout_of-layout.result c.layout_of-layout.ensures).few;
+      long =
+          (fits a.number a.index c.outcome.result c.outcome.ensures c.layout_of-layout.result c.layout_of-layout.ensures).long;
+      rows = divided a.number a.index c.outcome.result c.outcome.ensures c.layout_of-layout.result
+          c.layout_of-layout.ensures c.if-layout-eq0.false;
     }
-
-pub leaf-rows-spec : {M : Type 1} → statement M
-leaf-rows-spec =
-    tie.close
-    (tie.spec
-    (λ c κs. search rules)
-    (λ c κs. search rules)
-    (λ c. search rules)
-    returns
-    (λ c. search rules)
-    returns-2)
