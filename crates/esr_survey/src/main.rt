@@ -65,6 +65,7 @@ fn next_run(asked: Asked, lines: Lines, run: &[u64], totals: &mut [u64]) -> Line
 }
 
 // Takes the lines of a part of the input: of the first run, or of as many as there are.
+#[tactic(auto, using(number_lines::proofs::Laws::lines_moved))]
 fn take_part(asked: Asked, from: Lines, part: &[u8], run: &mut [u64], totals: &mut [u64]) -> Lines {
     let mut lines = from;
     let mut next: usize = 0;
