@@ -39,6 +39,7 @@ fn reply(kind: Kind, buf: &mut [u8], at: usize, number: Number) -> usize {
 }
 
 // Answers the lines that end in a part of the input, and hands on the line that does not.
+#[tactic(auto, using(line_reader::proofs::Laws::part_moved))]
 fn answer_part(
     kind: Kind,
     rest: Rest,

@@ -101,6 +101,7 @@ fn is_followed(named: bool, part: &[u8], next: usize) -> bool {
 }
 
 // Answers the lines that end in a part of the input, and hands on where the run stands.
+#[tactic(auto, using(line_reader::proofs::Laws::part_moved))]
 fn answer_part(
     asked: Asked,
     workshop: &[u8],

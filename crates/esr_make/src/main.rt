@@ -69,7 +69,7 @@ fn put_reply(buf: &mut [u8], help: bool, given: Given, numbers: &[u64]) -> usize
     make_reply::put_make_reply(buf, 0, numbers[0], numbers[1], numbers[2], &numbers[3..end])
 }
 
-fn asks_help(rt: &impl Env) -> bool {
+fn asks_help(rt: HostRuntime) -> bool {
     let mut word = [0u8; 8];
     let n = streams::copied(rt.arg(1, &mut word).ok(), &word);
     words::is_word(&word[0..n], b"--help")
@@ -80,6 +80,6 @@ fn main(rt: HostRuntime) {
     let mut buf = io::large_buffer();
     let mut numbers = places();
     let given = read_numbers(rt.stdin(), &mut part, &mut numbers);
-    let end = put_reply(&mut buf, asks_help(&rt), given, &numbers);
+    let end = put_reply(&mut buf, asks_help(rt), given, &numbers);
     streams::flush(&buf, end);
 }

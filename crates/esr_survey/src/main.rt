@@ -65,6 +65,7 @@ fn next_run(asked: Asked, lines: Lines, run: &[u64], totals: &mut [u64]) -> Line
 }
 
 // Takes the lines of a part of the input: of the first run, or of as many as there are.
+#[tactic(auto, using(number_lines::proofs::Laws::lines_moved))]
 fn take_part(asked: Asked, from: Lines, part: &[u8], run: &mut [u64], totals: &mut [u64]) -> Lines {
     let mut lines = from;
     let mut next: usize = 0;
@@ -113,7 +114,7 @@ fn count_values(
     }
 }
 
-fn options(rt: &impl Env) -> Asked {
+fn options(rt: HostRuntime) -> Asked {
     let mut word = [0u8; 16];
     let n = streams::copied(rt.arg(1, &mut word).ok(), &word);
     let all = words::is_word(&word[0..n], b"--all");
@@ -126,7 +127,7 @@ fn main(rt: HostRuntime) {
     let mut part = io::large_buffer();
     let mut run = run_places();
     let mut totals = [0u64; PLACES];
-    let asked = options(&rt);
+    let asked = options(rt);
     count_values(asked, rt.stdin(), &mut part, &mut run, &mut totals);
     let mut text = io::buffer();
     let end = survey_reply::put_survey(&mut text, 0, &totals, asked.all);

@@ -1,6 +1,5 @@
 -- Each promise of this crate decides the next offset and the buffer: it says what both are, and the maker's promises decide what is said.
-use mathlib.Core.Path.{◌≡◌, sym, ap, ap₂, ◌∙◌}
-use Rattle.buffer.specs.Appending.{appended}
+use mathlib.Core.Path.{sym, ap₂, ◌∙◌}
 use Rattle.make_reply.specs.Promises.{BadNumber, HelpReply, MakeReply, TooFew}
 use Rattle.make_reply.specs.Replies.{make_text}
 use Rattle.maker.proofs.Decides.{fitting_decides, make_decides}

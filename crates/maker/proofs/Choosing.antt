@@ -1,14 +1,14 @@
 -- What is chosen is chosen alone, since at most one set of rows fits; and an outcome that the leaves tell is the one whose rows fit.
-use Rattle.std.proofs.Common.{◌≡◌, ℕ, zero, suc, ◌+◌, ◌%◌, ◌^◌, ◌<◌, ◌≤◌, Bool, true, false, cond, ◌&&◌, T, eqb, ltb, List, [], ◌∷◌, length, get_or, take, sym, refl, ap, ◌∙◌, subst, ap₂, not-suc-le-zero, mod-eq_of_lt, arith, eqb→eq, length-take-le, get_or-take, ltb-false, ltb-true, le-ltb, lt-ltb, eq-eqb, ne_eqb}
+use Rattle.std.proofs.Common.{◌≡◌, ℕ, zero, suc, ◌%◌, ◌^◌, ◌<◌, ◌≤◌, Bool, true, false, cond, ◌&&◌, T, eqb, ltb, List, [], ◌∷◌, length, get_or, take, sym, refl, ap, ◌∙◌, subst, ap₂, not-suc-le-zero, mod-eq_of_lt, arith, eqb→eq, length-take-le, get_or-take, ltb-false, ltb-true, le-ltb, lt-ltb, eq-eqb, ne_eqb}
 use Rattle.promise.proofs.Tests.{both_left, both_right, is_true}
 use Rattle.refusals.specs.Refusals.{bare}
 use Rattle.refusals.specs.declared.Reason.TheVariants.{WideLeaf}
 use Rattle.records.specs.declared.Row.{Row}
 use Rattle.tables.specs.Shape.{Table, tests}
-use Rattle.tables.specs.Applying.{keep, rows_for}
+use Rattle.tables.specs.Applying.{rows_for}
 use Rattle.tables.proofs.Laws.{knows_lines}
 use Rattle.tables.proofs.Sound.{tiles, tiled}
-use Rattle.layouts.specs.Layouts.{table_of, layout_number, empty, layout_room, pad}
+use Rattle.layouts.specs.Layouts.{table_of, layout_number, empty, pad}
 use Rattle.layouts.proofs.Indices.{table-has, number-sound}
 use Rattle.layout_sets.specs.Fitting.{leaf_rows, answers, Fits}
 use Rattle.layout_sets.specs.Outcomes.{sets, outcome_of, index_of}
@@ -16,10 +16,9 @@ use Rattle.layout_sets.proofs.Fitting.{regular, regular-table, regular-msr, one-
 use Rattle.layout_sets.proofs.Outcomes.{set_at, index_less}
 use Rattle.esr.proofs.Laws.{past-empty}
 use Rattle.maker.specs.Laid.{rows_at, Laid, Long, Low, Bounded, tells_at, FitsAt, one, none}
-use Rattle.maker.specs.Making.{Choice, no_class, no_layout, chosen, Chooses, unserved, unfit, fit, table_for, in_widths, packed, value_of, nothing, judged, made_at}
-use Rattle.maker.specs.Promises.{index_for, Fitting, Makes}
+use Rattle.maker.specs.Making.{Choice, no_class, no_layout, chosen, Chooses, unserved, unfit, fit, table_for, in_widths, value_of, nothing, judged, made_at}
+use Rattle.maker.specs.Promises.{index_for, Fitting}
 use Rattle.maker.specs.declared.LeafRows.{LeafRows}
-use Rattle.maker.specs.declared.Made.{Made}
 use Rattle.maker.proofs.Packing.{First, first, packed_less}
 
 pub number-regular : (n : ℕ) → T (regular (table_of n))

@@ -1,5 +1,5 @@
 -- Each promise of this crate decides its answer: what is chosen is chosen alone, and the answer is what follows from it.
-use Rattle.std.proofs.Common.{◌≡◌, sym, ap, ◌∙◌}
+use Rattle.std.proofs.Common.{sym, ap, ◌∙◌}
 use Rattle.promise.specs.Promise.{Decides}
 use Rattle.maker.specs.Making.{made_of}
 use Rattle.maker.specs.Promises.{index_for, Fitting, Makes}

@@ -1,6 +1,6 @@
 -- Leaves in their widths, packed at rows that leave no gap, are the fields of what they pack to; and the fields of a value, packed, are the value: one
 -- induction over the rows for each.
-use Rattle.std.proofs.Common.{◌≡◌, ℕ, suc, ◌+◌, ◌*◌, ◌/◌, ◌%◌, ◌^◌, ◌<◌, ◌≤◌, Bool, true, false, ◌&&◌, T, eqb, ltb, leb, List, [], ◌∷◌, map, length, sym, refl, ap, ◌∙◌, subst, ap₂, mod-eq_of_lt, add_comm, arith, eqb→eq, ltb→lt, lt→ltb, leb→le, pow_pos, pow-add}
+use Rattle.std.proofs.Common.{◌≡◌, ℕ, ◌+◌, ◌*◌, ◌/◌, ◌%◌, ◌^◌, ◌<◌, ◌&&◌, T, eqb, ltb, leb, List, [], ◌∷◌, map, length, sym, refl, ap, ◌∙◌, subst, ap₂, mod-eq_of_lt, add_comm, arith, eqb→eq, ltb→lt, lt→ltb, pow_pos, pow-add}
 use native.Mathlib.Nat.{mod-one}
 use lib.Arith.{digits_lt}
 use lib.Pow.{high, low, field, mod-pow-add, mod-mod-pow}

@@ -1,5 +1,5 @@
 -- The loops of the code turn by turn: what is left of the rows and of the leaves begins with the next row and the next leaf.
-use Rattle.std.proofs.Common.{◌≡◌, ℕ, suc, ◌+◌, ◌*◌, ◌%◌, ◌^◌, ◌<◌, ◌≤◌, Bool, true, false, cond, ◌&&◌, ltb, List, [], ◌∷◌, length, get_or, take, drop, sym, refl, ap, ◌∙◌, subst, ap₂, add-zero, add_assoc, mod-eq_of_lt, div-one, add-one, arith, length-take-le, drop-cons, get_or-take, ltb-false, ltb-true, le-ltb, lt-ltb}
+use Rattle.std.proofs.Common.{◌≡◌, ℕ, ◌+◌, ◌*◌, ◌%◌, ◌^◌, ◌<◌, ◌≤◌, Bool, true, false, cond, ◌&&◌, ltb, List, [], ◌∷◌, length, get_or, take, drop, sym, refl, ap, ◌∙◌, subst, ap₂, add-zero, add_assoc, mod-eq_of_lt, div-one, add-one, arith, length-take-le, drop-cons, get_or-take, ltb-false, ltb-true, le-ltb, lt-ltb}
 use native.Mathlib.Nat.{add-mod-mod, mod-add-mod}
 use lib.Seq.{drop-length}
 use Rattle.records.specs.Bits.{field_of}

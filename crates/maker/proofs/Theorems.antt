@@ -1,7 +1,6 @@
 -- Making and decoding are inverse (#106). What is packed has the leaves as its fields, so the rows that the leaves pick are those of the value; and the
 -- fields of a value, at its own rows, pick these rows and pack to the value.
-use Rattle.std.proofs.Common.{◌≡◌, ℕ, suc, ◌+◌, ◌*◌, ◌%◌, ◌^◌, ◌<◌, Bool, true, false, cond, ◌&&◌, T, eqb, ltb, List, [], ◌∷◌, ◌++◌, map, length, sym, refl, ap, ◌∙◌, subst, ap₂, mod-eq_of_lt, arith, eqb→eq, ltb→lt, lt→ltb, lt-ltb, eq-eqb}
-use borrow.Author.Tests.{eqb-false}
+use Rattle.std.proofs.Common.{◌≡◌, ℕ, suc, ◌+◌, ◌*◌, ◌%◌, ◌^◌, ◌<◌, Bool, true, false, cond, ◌&&◌, T, ltb, List, [], ◌∷◌, ◌++◌, map, length, sym, refl, ap, ◌∙◌, subst, ap₂, mod-eq_of_lt, arith, eqb→eq, ltb→lt, lt→ltb, lt-ltb}
 use Rattle.promise.proofs.Tests.{both_left, both_right, both_intro, true_is, is_true}
 use Rattle.refusals.specs.Refusals.{refusal_number, passed, no_refusal, bare, carrying}
 use Rattle.refusals.specs.declared.Reason.TheVariants.{InvalidEc, NoLayout, WideLeaf}
@@ -16,20 +15,20 @@ use Rattle.records.specs.declared.Row.{Row}
 use Rattle.records.proofs.Laws.{list-of, field_lt}
 use Rattle.tables.specs.Shape.{Table}
 use Rattle.tables.specs.Applying.{rows_for}
-use Rattle.tables.specs.Tables.{reserved, top_rows, layouts}
+use Rattle.tables.specs.Tables.{reserved, top_rows}
 use Rattle.tables.proofs.Sound.{tiles}
-use Rattle.layouts.specs.Layouts.{table_of, layout_number, empty}
+use Rattle.layouts.specs.Layouts.{layout_number, empty}
 use Rattle.layouts.proofs.Indices.{number-sound}
 use Rattle.layout_sets.specs.Fitting.{leaf_rows, Fits}
 use Rattle.layout_sets.proofs.Fitting.{fits-own, own-fits}
-use Rattle.esr.specs.Decode.{refused, accepted, failure_for, records_for, table_answer, class_of, iss_of, class_answer, answer_of}
+use Rattle.esr.specs.Decode.{refused, accepted, failure_for, records_for, table_answer, class_of, iss_of, answer_of}
 use Rattle.esr.specs.Promises.{Decoded}
 use Rattle.esr.specs.declared.Answer.{Answer}
 use Rattle.esr.proofs.Laws.{class-empty, class-filled, top-fails, top-passes}
 use Rattle.reading.specs.Leaves.{leaves_in, leaves}
 use Rattle.reading.proofs.HasBits.{inner}
 use Rattle.reading.proofs.Reading.{refused-is}
-use Rattle.maker.specs.Making.{Choice, no_class, no_layout, chosen, Chooses, unserved, unfit, fit, table_for, in_widths, packed, value_of, nothing, judged, made_at, made_of}
+use Rattle.maker.specs.Making.{Choice, Chooses, unserved, unfit, fit, table_for, in_widths, packed, value_of, nothing, judged, made_at, made_of}
 use Rattle.maker.specs.Parts.{Parts}
 use Rattle.maker.specs.Promises.{Makes}
 use Rattle.maker.specs.declared.Made.{Made}

@@ -1,13 +1,12 @@
 -- What the conditions of each table name, by one computed test of all tables; and rows compared, the top ones by the rule of ISS's own text.
-use Prim.Native.Nat.{ℕ, ◌≤◌, ◌<◌}
+use Prim.Native.Nat.{ℕ}
 use mathlib.Core.Bool.{Bool, true, false, cond, ◌&&◌, ◌||◌}
 use mathlib.Core.List.{List, [], ◌∷◌, ◌++◌, map}
 use mathlib.Core.Path.{◌≡◌, refl, sym, ap, ap₂, subst, ◌∙◌}
-use native.Mathlib.Omega.{arith}
 use lib.Dec.{T, eqb, ltb}
 use lib.ListN.{length, get_or, get_or-eq_default}
 use borrow.Author.Tests.{eq-eqb, ne_eqb, eqb-true, eqb-false, ltb-true, ltb-false}
-use Rattle.promise.proofs.Tests.{every, every-at, true_is}
+use Rattle.promise.proofs.Tests.{every, every-at}
 use Rattle.promise.specs.Member.{member}
 use Rattle.esr.specs.Decode.{class_of, iss_of}
 use Rattle.layouts.specs.Layouts.{layout_for, layout_number, table_of, tables_of}

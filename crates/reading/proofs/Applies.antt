@@ -24,6 +24,7 @@ use Rattle.reading.proofs.HasBits.{bits_is, bits-of, inner}
 
 on_list_lem : (x : Text) (ts : List Text) → Memᴰ x ts → T (on_list ts x.value)
 unfolding on_list
+on_list_lem x [] m = elim m [ ]
 on_list_lem x (t ∷ ts) (Memᴰ.head e) =
     or_left (eqb x.value t.value) (on_list ts x.value) (is_true (eq-eqb x.value t.value (ap (λ (y : Text). y.value) e)))
 on_list_lem x (t ∷ ts) (Memᴰ.tail m) = or_right (eqb x.value t.value) (on_list ts x.value) (on_list_lem x ts m)

@@ -174,6 +174,7 @@ some_mem p (x ∷ xs) t =
     (λ u. let r : _ = some_mem p xs u in (r.0, mathlib.Core.List.Memᴰ.tail r.1, r.2))
 
 meets_at : (v : ℕ) (c : Condition) (cs : List Condition) → Meets v cs → Memᴰ c cs → Fulfils v c.test c.holds
+meets_at v c [] m n = elim n [ ]
 meets_at v c (d ∷ ds) m (mathlib.Core.List.Memᴰ.head e) = subst (λ (x : Condition). Fulfils v x.test x.holds) (sym e) m.0
 meets_at v c (d ∷ ds) m (mathlib.Core.List.Memᴰ.tail k) = meets_at v c ds m.1 k
 
@@ -342,6 +343,7 @@ module _ (v : ℕ) (f : Refusal) (s : Served) (k : Classed v s) (i : ℕ) (l : L
 -- The row of the first failure, and its line.
 
 first-row : {v : ℕ} {f : Refusal} (rows : List Row) → First v f rows → (row : Row) × Memᴰ row rows × Unmet v row f
+first-row {v} {f} [] m = elim m [ ]
 first-row (r ∷ rs) (here u) = (r, mathlib.Core.List.Memᴰ.head refl, u)
 first-row (r ∷ rs) (later m f) = let x : _ = first-row rs f in (x.0, mathlib.Core.List.Memᴰ.tail x.1, x.2)
 
@@ -512,6 +514,7 @@ module _ (v : ℕ) (f : Refusal) where
   checks-given : (cs : List Row) → Checks v cs → First v f cs → GivenWhen v f
   checks-given cs (unserved h) (here u) = top-given u
   checks-given cs (unserved h) (later m (here u)) = class-given u
+  checks-given _ (unserved h) (later m (later j g)) = elim g [ ]
   checks-given cs (served k a o) (here u) = top-given u
   checks-given cs (served k a o) (later m (here u)) = class-given u
   checks-given all (served {s} {rows} {cs} k a o) (later m (later j g)) = own-given s rows cs k a o g

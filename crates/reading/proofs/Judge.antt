@@ -1,6 +1,6 @@
 -- A record holds its row exactly where it is the row's record and the row is met, and the first row that is not met is the first failure: by
 -- what each kind asks.
-use Rattle.std.proofs.Common.{◌≡◌, ℕ, ◌+◌, Bool, true, false, cond, T, eqb, leb, ◌⊎◌, List, [], ◌∷◌, map, sym, refl, ap, ◌∙◌, subst, ap₂, inl, inr, eqb→eq, leb→le, eq-eqb}
+use Rattle.std.proofs.Common.{◌≡◌, ℕ, ◌+◌, Bool, true, false, cond, T, leb, ◌⊎◌, List, [], ◌∷◌, map, sym, refl, ap, ◌∙◌, subst, ap₂, inl, inr, eqb→eq, leb→le, eq-eqb}
 use mathlib.Core.List.Memᴰ
 use mathlib.Core.List.{Memᴰ}
 use Rattle.promise.specs.Member.{member}
@@ -105,6 +105,7 @@ pass-first v (r ∷ rs) p =
 -- the first failure is what the decoder's checks answer
 pub first-is : (v : ℕ) (f : Refusal) (rows : List Row) → First v f rows → first_failure v rows ≡ f
 unfolding first_failure
+first-is v f [] m = elim m [ ]
 first-is v f (r ∷ rs) (here u) =
     let w : _ = unmet-fails v r f u in
     ap (λ (b : Bool). cond b (first_failure v rs) (refusal_of v r)) w.0 ∙ w.1
@@ -128,6 +129,7 @@ unmet-number v row f t (not_zero h k e b z) = subst (λ (n : ℕ). T (member n r
 unmet-number v row f t (not_listed h k b n) = subst (λ (x : Kind). T (numbered x)) k t
 
 pub first-number : (v : ℕ) (f : Refusal) (rows : List Row) → Each (λ r. T (numbered (row_kind r))) rows → First v f rows → T (member (refusal_number f) refusing)
+first-number v f [] t m = elim m [ ]
 first-number v f (r ∷ rs) t (here u) = unmet-number v r f (t r (Memᴰ.head refl)) u
 first-number v f (r ∷ rs) t (later m k) = first-number v f rs (λ x n. t x (Memᴰ.tail n)) k
 

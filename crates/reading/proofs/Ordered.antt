@@ -16,6 +16,7 @@ use Rattle.reading.proofs.Judge.{Pass}
 -- Rows that leave no gap start at different bits.
 
 below : (row : Row) (top : ℕ) (rows : List Row) → T (tiles top rows) → Memᴰ row rows → row.start < top
+below row top [] t m = elim m [ ]
 below row top (r ∷ rs) t m = by (Memᴰ.cases_cons m) (below row r.start rs (both_right (leb 1 r.width) _ u))
   where
     u : T (leb 1 r.width && tiles r.start rs)
@@ -53,6 +54,8 @@ one-start a b (r ∷ rs) t m n e = same_start a b 25 (r ∷ rs) t m n e
 -- A row that asks something, and its computed test.
 
 pub is_check-test : (k : Kind) → IsCheck k → T (is_check k)
+is_check-test Free m = elim m [ ]
+is_check-test Unchecked m = elim m [ ]
 is_check-test (Coded reason) coded = tt
 is_check-test Checked checked = tt
 

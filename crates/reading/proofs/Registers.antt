@@ -1,6 +1,6 @@
 -- #108: "the ISS record gets the name as its text if the key is there". In any reading of class 0x18 the fifth record holds ISS under the rule of system
 -- registers; the register of its key stands at one place of the table, and the rule has its name there.
-use Rattle.std.proofs.Common.{◌≡◌, ℕ, suc, ◌+◌, Bool, true, cond, T, eqb, List, ◌∷◌, ◌++◌, get_or, sym, refl, ap, ◌∙◌, subst, arith, eqb→eq, eq-eqb, ne_eqb}
+use Rattle.std.proofs.Common.{◌≡◌, ℕ, suc, ◌+◌, Bool, true, cond, T, eqb, List, [], ◌∷◌, ◌++◌, get_or, sym, refl, ap, ◌∙◌, subst, arith, eqb→eq, eq-eqb, ne_eqb}
 use mathlib.Core.List.{Memᴰ}
 use Rattle.promise.specs.Member.{member}
 use Rattle.promise.proofs.Tests.{every, every_mem, member_of, true_is}
@@ -50,6 +50,7 @@ record Placed (r : Register) (m : ℕ) (rs : List Register) : Type 0 where
 
 placed : (r : Register) (m : ℕ) (rs : List Register) → Memᴰ r rs → Placed r m rs
 unfolding text_in
+placed r m [] n = elim n [ ]
 placed r m (x ∷ rs) (Memᴰ.head e) =
     let at : m + 0 ≡ m = omega arith in
     record {
@@ -68,6 +69,7 @@ placed r m (x ∷ rs) (Memᴰ.tail i) =
 
 -- a place of the table is that of one of its registers
 among : {k n : ℕ} (rs : List Register) → Stands k n rs → (r : Register) × Memᴰ r rs × (r.key ≡ k)
+among {k} {n} [] m = elim m [ ]
 among (r ∷ rs) (first e) = (r, Memᴰ.head refl, e)
 among (x ∷ rs) (next s) = let rest : _ = among rs s in (rest.0, Memᴰ.tail rest.1, rest.2)
 

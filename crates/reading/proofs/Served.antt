@@ -16,6 +16,7 @@ use Rattle.reading.proofs.HasBits.{bits_is, bits-of}
 
 -- a layout of the list that serves the class is counted
 counted : (c : ℕ) (s : Served) (ss : List Served) → Memᴰ s ss → T (member c s.classes) → 1 ≤ served ss c
+counted c s [] m t = elim m [ ]
 counted c s (x ∷ xs) (Memᴰ.head e) t =
     subst (λ (b : Bool). 1 ≤ cond b (suc (served xs c)) (served xs c))
     (sym (true_is (member c x.classes) (subst (λ (y : Served). T (member c y.classes)) e t))) (omega arith)
@@ -48,6 +49,7 @@ looked esr (s ∷ ss) = by (member (class_of esr) s.classes) refl (looked esr ss
 
 -- no two layouts of a list in which the class is served once serve it
 one-served : (c : ℕ) (a b : Served) (ss : List Served) → served ss c ≤ 1 → Memᴰ a ss → Memᴰ b ss → T (member c a.classes) → T (member c b.classes) → a ≡ b
+one-served c a b [] h m _ s t = elim m [ ]
 one-served c a b (x ∷ xs) h (Memᴰ.head p) (Memᴰ.head q) s t = p ∙ sym q
 one-served c a b (x ∷ xs) h (Memᴰ.head p) (Memᴰ.tail n) s t =
     absurd (omega (arith, counted c b xs n t, subst (λ (k : Bool). cond k (suc (served xs c)) (served xs c) ≤ 1) (true_is (member c x.classes) (subst (λ (y : Served). T (member c y.classes)) p s)) h))

@@ -35,6 +35,7 @@ key-of iss =
 
 stands-place : {k n : ℕ} (low : ℕ) (rs : List Register) → T (rising low (keys_of rs)) → Stands k n rs → (low ≤ k) × (place_in rs k ≡ n)
 unfolding place_in
+stands-place {k} {n} low [] t m = elim m [ ]
 stands-place {k} low (r ∷ rs) t (first e) = (
   omega (arith, e, leb→le low r.key (both_left (leb low r.key) _ t)),
   rw (eq-eqb k r.key (sym e)) refl,

@@ -12,7 +12,6 @@ use Rattle.refusals.specs.Refusals.{no_refusal, passed, reason_number, refusal_n
 use Rattle.refusals.specs.Values.{value_numbers}
 use Rattle.refusals.specs.declared.Refusal.{Refusal}
 use Rattle.records.specs.Rows.{record_of, value_in}
-use Rattle.records.specs.declared.Record.{Record}
 use Rattle.records.specs.declared.Row.{Row}
 use Rattle.reading.proofs.HasBits.{bits_is, bits-of}
 use Rattle.reading.proofs.Judge.{Each, each-cons}
@@ -192,6 +191,7 @@ module _ (nested : Bool) (v : ℕ) where
   first-listed f rows (later {rows = rest} s k) = first-listed f rest k
 
   pub first-is : (f : Refusal) (rows : List Row) → Each Known rows → First nested v f rows → refusal_of_rows rows ≡ f
+  first-is f [] k m = elim m [ ]
   first-is f (r ∷ rs) k (here u) =
       looked r rs f (fails-refuses r (k r (Memᴰ.head refl)) f u) ∙ ap (λ (b : Bool). cond b (refusal_of_rows rs) f) (fails-number r f u)
   first-is f (r ∷ rs) k (later s u) =

@@ -343,6 +343,7 @@ fn say_read(tally: u64, read: Number) -> u64 {
     tally
 }
 
+#[tactic(auto, using(line_reader::proofs::Laws::part_moved))]
 fn say_given(tally: u64, given: &[u8]) -> u64 {
     let mut next = tally;
     let mut at: usize = 0;

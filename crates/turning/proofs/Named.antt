@@ -75,6 +75,7 @@ on_list_lem f (g ∷ gs) t = by (either (same f g) (on_list f gs) t) (on_list_le
     by (inr m) rest = Memᴰ.tail (rest m)
 
 pub mem_on : (f : Field) (gs : List Field) → Memᴰ f gs → T (on_list f gs)
+mem_on f [] m = elim m [ ]
 mem_on f (g ∷ gs) (Memᴰ.head e) = or_left (same f g) (on_list f gs) (subst (λ (h : Field). T (same f h)) e (both_intro (eqb f.start f.start) _ (eqb_refl f.start) (eqb_refl f.width)))
 mem_on f (g ∷ gs) (Memᴰ.tail m) = or_right (same f g) (on_list f gs) (mem_on f gs m)
 

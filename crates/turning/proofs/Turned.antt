@@ -37,6 +37,7 @@ use Rattle.turning.proofs.Named.{Elsewhere, some_row, some-row, leaf-elsewhere, 
 -- Rows that leave no gap share no bit.
 
 inside : (top : ℕ) (rows : List Row) → T (tiles top rows) → (r : Row) → Memᴰ r rows → r.start + r.width ≤ top
+inside top [] t r m = elim m [ ]
 inside top (x ∷ xs) t r (Memᴰ.head e) =
     let h : x.start + x.width ≡ top = eqb→eq (x.start + x.width) top (both_left (eqb (x.start + x.width) top) _ t) in
     subst (λ (y : Row). y.start + y.width ≤ top) (sym e) (omega arith)
@@ -46,6 +47,7 @@ inside top (x ∷ xs) t r (Memᴰ.tail m) =
     omega (arith, inside x.start xs (both_right (leb 1 x.width) _ u) r m)
 
 tile-apart : (top : ℕ) (rows : List Row) → T (tiles top rows) → (r x : Row) → Memᴰ r rows → Memᴰ x rows → (x ≡ r) ⊎ Apart (bits_of r) (bits_of x)
+tile-apart top [] t r x m n = elim m [ ]
 tile-apart top (y ∷ ys) t r x (Memᴰ.head e) (Memᴰ.head f) = inl (f ∙ sym e)
 tile-apart top (y ∷ ys) t r x (Memᴰ.head e) (Memᴰ.tail n) =
     let u : T (leb 1 y.width && tiles y.start ys) = both_right (eqb (y.start + y.width) top) _ t in

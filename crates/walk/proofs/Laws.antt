@@ -1,6 +1,6 @@
 -- Laws of the walk's definitions, which the functions' proofs cite: where an entry is sound the walk goes on, 13 bytes later, and elsewhere it
 -- ends. The entry reader refuses all that the walk ends at, so that what the code asks of it decides.
-use Rattle.std.proofs.Common.{◌≡◌, ℕ, zero, suc, ◌+◌, ◌-◌, ◌*◌, ◌%◌, ◌^◌, ◌<◌, ◌≤◌, Bool, true, false, cond, not, ◌||◌, eqb, ltb, List, [], ◌∷◌, ◌++◌, length, get_or, take, drop, set, sym, refl, ap, ◌∙◌, append_assoc, append-nil, add-one, arith, eqb→eq, length-append, length-drop, take-append-drop, length-take-le, take_all, drop-drop, take-suc-set, drop-set-lt, le-ltb, lt-ltb, eq-eqb, ne_eqb, eqb-true}
+use Rattle.std.proofs.Common.{◌≡◌, ℕ, zero, suc, ◌+◌, ◌-◌, ◌*◌, ◌%◌, ◌^◌, ◌<◌, ◌≤◌, Bool, true, false, cond, ◌||◌, eqb, ltb, List, [], ◌∷◌, ◌++◌, length, get_or, take, drop, set, sym, refl, ap, ◌∙◌, append_assoc, append-nil, add-one, arith, eqb→eq, length-append, length-drop, take-append-drop, length-take-le, take_all, drop-drop, take-suc-set, drop-set-lt, le-ltb, lt-ltb, eq-eqb, ne_eqb, eqb-true}
 use mathlib.Core.Bool.{and-false}
 use lib.ListN.{length-map}
 use borrow.Author.Tests.{eqb-false}
@@ -117,6 +117,22 @@ rest s at = take_all (length s - at) (drop at s) (omega (arith, length-drop at s
 
 pub judged-by : {r : Entry} {n : ℕ} (t : List ℕ) → r ≡ entry_of t → n ≡ refusal_number r.refusal → n ≡ reason_number (judged t)
 judged-by t e is = is ∙ ap (λ (x : Entry). refusal_number x.refusal) e ∙ ap refusal_number (refusal_is t)
+
+-- at a place within a block: the test says whether the entry there is sound, and one that is has its 13 bytes
+module _ (s : List ℕ) (at : ℕ) {e : Entry} {n : ℕ} (read : e ≡ entry_of (take (length s - at) (drop at s)))
+    (tested : n ≡ refusal_number e.refusal)
+  where
+    judged_at : n ≡ reason_number (judged (drop at s))
+    judged_at = judged-by (drop at s) (read ∙ ap entry_of (rest s at)) tested
+
+    pub bad_at : (n ≡ 0 → ⊥) → entries_of (drop at s) ≡ []
+    bad_at h = entries_none (drop at s) (λ z. h (judged_at ∙ z))
+
+    pub sound_at : n ≡ 0 → reason_number (judged (drop at s)) ≡ 0
+    sound_at h = sym judged_at ∙ h
+
+    pub long_at : at ≤ length s → n ≡ 0 → at + 13 ≤ length s
+    long_at within h = omega (arith, within, sound-long (drop at s) (sound_at h), length-drop at s)
 
 -- Counts: of those so far and of those that are left.
 

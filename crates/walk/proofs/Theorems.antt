@@ -1,6 +1,6 @@
 -- What the promise comes to: a walk is the entry reader's answers, one by one; what is erased that reader refuses; and of entries written one
 -- after another the steps say how many are lost, and where.
-use Rattle.std.proofs.Common.{◌≡◌, ℕ, zero, suc, ◌+◌, ◌-◌, ◌*◌, ◌%◌, ◌^◌, ◌<◌, ◌≤◌, true, List, [], ◌∷◌, ◌++◌, map, length, get_or, drop, replicate, sym, refl, ap, ◌∙◌, ap₂, append_assoc, append-nil, arith, length-append, length-drop, drop-drop, eq-eqb, ne_eqb}
+use Rattle.std.proofs.Common.{◌≡◌, ℕ, zero, suc, ◌+◌, ◌*◌, ◌%◌, ◌^◌, ◌<◌, ◌≤◌, true, List, [], ◌∷◌, ◌++◌, map, length, get_or, drop, replicate, sym, refl, ap, ◌∙◌, ap₂, append_assoc, append-nil, arith, length-append, length-drop, drop-drop, eq-eqb, ne_eqb}
 use lib.ListN.{length-replicate}
 use Rattle.entry.proofs.Laws.{judged-short, judged_version, judged-long}
 use Rattle.entry.proofs.Theorems.{refusal_is, written-is-read}
@@ -12,7 +12,7 @@ use Rattle.refusals.specs.declared.Reason.TheVariants.{ShortEntry, BadLength, Ba
 use Rattle.walk.proofs.Laws.{by-sound, sound-long, erased-length, entries_none, entries_more, entries_end, entries_fit, steps_fewer, end-over, walk_whole}
 use Rattle.walk.specs.Promises.{BlockWalked}
 use Rattle.strict.specs.declared.Profile.{Profile}
-use Rattle.walk.specs.Walks.{erased, entries_of, end_offset, end_refusal, skipped, steps_after, steps_of, sequences, steps_in, walked, block_bytes, sequences_from}
+use Rattle.walk.specs.Walks.{erased, entries_of, end_offset, end_refusal, skipped, steps_after, steps_of, sequences, steps_in, block_bytes, sequences_from}
 use Rattle.walk.specs.declared.Walked.{Walked}
 
 -- "The single-entry reader still refuses such bytes, with 14, 15 or 16": 0xFFFF is their length, so it is 14 where fewer than 65,537 bytes are

@@ -1,5 +1,5 @@
 -- An array of zeros, the steps written to its front, says what the steps say; and the whole reply, by whether the walk is refused.
-use Prim.Native.Nat.{ℕ, zero, suc, ◌+◌}
+use Prim.Native.Nat.{ℕ, zero, suc}
 use mathlib.Core.List.{List, [], ◌∷◌, ◌++◌}
 use mathlib.Core.Path.{◌≡◌, refl, sym, ap, ◌∙◌}
 use lib.ListN.{length, get_or, drop, replicate, length-replicate}

@@ -12,7 +12,8 @@ use Rattle.strict.proofs.decode_strict.Goals as goal
 pub returns-then-number-ne0 : goal.returns-then-number-ne0
 returns-then-number-ne0 c =
     let a = c.args in
-    ordinarily_refused a.nested a.esr c.decode-answer.result c.decode-answer.ensures (λ e. c.if-number-ne0.true (c.number.ensures ∙ e))
+    ordinarily_refused a.nested a.esr c.decode-answer.result c.decode-answer.ensures
+    (λ e. c.if-number-ne0.true (c.number.ensures ∙ e))
 
 pub first_refusal-stricter-requires : goal.first_refusal-stricter-requires
 first_refusal-stricter-requires c =
@@ -24,11 +25,13 @@ unfolding refused
 returns-then-number-ne0-2 c =
     let a = c.args in
     ap (λ (s : Records). record { refusal = c.first_refusal-stricter.result; records = s }) c.empty.ensures
-    ∙ strictly-refused a.nested a.esr c.decode-answer.result c.decode-answer.ensures c.first_refusal-stricter.result c.first_refusal-stricter.ensures
+    ∙ strictly-refused a.nested a.esr c.decode-answer.result c.decode-answer.ensures c.first_refusal-stricter.result
+    c.first_refusal-stricter.ensures
     (sym c.number.ensures ∙ c.if-number-ne0.false) (λ e. c.if-number-ne0-2.true (c.number-2.ensures ∙ e))
 
 pub returns : goal.returns
 returns c =
     let a = c.args in
-    strictly-accepted a.nested a.esr c.decode-answer.result c.decode-answer.ensures c.first_refusal-stricter.result c.first_refusal-stricter.ensures (sym c.number.ensures ∙ c.if-number-ne0.false)
+    strictly-accepted a.nested a.esr c.decode-answer.result c.decode-answer.ensures c.first_refusal-stricter.result
+    c.first_refusal-stricter.ensures (sym c.number.ensures ∙ c.if-number-ne0.false)
     (sym c.number-2.ensures ∙ c.if-number-ne0-2.false)

@@ -27,7 +27,8 @@ returns-then-number-ne0 c =
     let long : length items ≡ 19 = search (rules, long_as) in
     sym
     (c.loop-i.invariant.1
-    ∙ record_fails a.nested items a.records.count c.loop-i.i (omega (arith, c.requires)) (omega arith) c.record_refusal-refusal.result c.record_refusal-refusal.ensures
+    ∙ record_fails a.nested items a.records.count c.loop-i.i (omega (arith, c.requires))
+    (omega arith) c.record_refusal-refusal.result c.record_refusal-refusal.ensures
     (λ e. c.if-number-ne0.true (c.number.ensures ∙ e)))
 
 pub loop-i-preserved : goal.loop-i-preserved
@@ -37,7 +38,8 @@ loop-i-preserved c =
     let long : length items ≡ 19 = search (rules, long_as) in (
       omega arith,
       c.loop-i.invariant.1
-          ∙ record_passes a.nested items a.records.count c.loop-i.i (omega (arith, c.requires)) (omega arith) c.record_refusal-refusal.result c.record_refusal-refusal.ensures
+          ∙ record_passes a.nested items a.records.count c.loop-i.i (omega (arith, c.requires))
+          (omega arith) c.record_refusal-refusal.result c.record_refusal-refusal.ensures
           (sym c.number.ensures ∙ c.if-number-ne0.false),
     )
 

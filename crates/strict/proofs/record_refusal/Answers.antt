@@ -36,4 +36,5 @@ pub returns : goal.returns
 returns c =
     let a = c.args in
     let done : c.loop-index.index ≡ 4 = omega arith in
-    sym (c.loop-index.invariant.1 ∙ ap (λ (i : ℕ). refusal_in (drop i stricter) a.nested a.field) done ∙ lines-done a.nested a.field)
+    sym (c.loop-index.invariant.1 ∙ ap (λ (i : ℕ). refusal_in (drop i stricter) a.nested a.field) done
+    ∙ lines-done a.nested a.field)

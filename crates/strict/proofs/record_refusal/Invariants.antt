@@ -7,7 +7,8 @@ use Rattle.strict.specs.Stricter.{stricter}
 use Rattle.strict.proofs.record_refusal.Given as goal
 
 abbrev pub invariant-loop-index : goal.invariant-loop-index
-invariant-loop-index l = (l.index ≤ 4) × (record_refusal l.nested l.field ≡ refusal_in (drop l.index stricter) l.nested l.field)
+invariant-loop-index l =
+    (l.index ≤ 4) × (record_refusal l.nested l.field ≡ refusal_in (drop l.index stricter) l.nested l.field)
 
 abbrev pub decreases-loop-index : goal.decreases-loop-index
 decreases-loop-index l = 4 - l.index

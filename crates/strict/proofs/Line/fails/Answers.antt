@@ -19,10 +19,12 @@ returns-then-not-is_of c =
 pub returns-then-is_excused : goal.returns-then-is_excused
 returns-then-is_excused c =
     let a = c.args in
-    by_tests a.nested a.field a.self true true (sym c.is_of.ensures ∙ c.if-not-is_of.false) (sym c.is_excused.ensures ∙ c.if-is_excused.true)
+    by_tests a.nested a.field a.self true true (sym c.is_of.ensures ∙ c.if-not-is_of.false)
+    (sym c.is_excused.ensures ∙ c.if-is_excused.true)
 
 pub returns : goal.returns
 returns c =
     let a = c.args in
     ap not c.has.ensures
-    ∙ by_tests a.nested a.field a.self true false (sym c.is_of.ensures ∙ c.if-not-is_of.false) (sym c.is_excused.ensures ∙ c.if-is_excused.false)
+    ∙ by_tests a.nested a.field a.self true false (sym c.is_of.ensures ∙ c.if-not-is_of.false)
+    (sym c.is_excused.ensures ∙ c.if-is_excused.false)

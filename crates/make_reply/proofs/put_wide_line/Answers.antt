@@ -1,0 +1,12 @@
+-- Four appenders, one after the other, of the class's own layout.
+use Rattle.buffer.proofs.Appending.{and_then}
+use Rattle.make_reply.specs.Replies.{reason_line}
+use Rattle.texts.specs.Pool.{bytes}
+use Rattle.make_reply.proofs.put_wide_line.Goals as goal
+
+pub returns : goal.returns
+unfolding reason_line bytes
+returns c =
+    rw (← c.layout_number.ensures)
+    (and_then (and_then (and_then c.put_refused-next.ensures c.put_bytes-next.ensures) c.put_too_wide-next.ensures)
+    c.put_bytes.ensures)

@@ -1,0 +1,22 @@
+-- By whether the value is refused; of the project's own pool the class text is the definition's.
+use Rattle.refusals.proofs.Cases.{passed_yes, passed_no}
+use mathlib.Core.Path.{◌∙◌, ap}
+use Rattle.reply_lines.proofs.Cases.{described-lent}
+use Rattle.esr.specs.Decode.{class_of}
+use Rattle.texts.specs.Rules.{class_name}
+use Rattle.texts.specs.Pool.{text_code}
+use Rattle.walk_lines.specs.Lines.{meaning}
+use Rattle.walk_lines.proofs.put_meaning.Goals as goal
+
+pub returns-then-number-ne0 : goal.returns-then-number-ne0
+unfolding meaning
+returns-then-number-ne0 c = rw (passed_no c.args.refusal c.number.ensures c.if-number-ne0.true) c.put_why.ensures
+
+pub returns : goal.returns
+unfolding meaning
+returns c =
+    let a = c.args in
+    let own = described-lent class_name.number (class_of a.esr)
+    (record { whole = c.pool_bytes-pool.ensures; each = c.text_starts-starts.ensures }) in
+    let code = c.text_code-code.ensures ∙ ap (text_code class_name.number) c.field.ensures in
+    rw (passed_yes a.refusal c.number.ensures c.if-number-ne0.false, ← own) (rw code at c.put_text.ensures)
