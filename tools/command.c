@@ -223,7 +223,7 @@ long rattle_arg(size_t index, uint8_t *bytes, size_t length) {
     return given == NULL ? missing : handed((const uint8_t *)given, length_of(given), bytes, length);
 }
 
-/* No program looks at what is set. */
+/* An argument that is missing or too long reads as one of length 0: no program tells why. */
 int rattle_errno(void) {
     return 0;
 }

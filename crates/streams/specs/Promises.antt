@@ -17,7 +17,7 @@ abbrev pub copied_length : Option ℕ → ℕ
 copied_length (Some n) = n
 copied_length None = 0
 
--- the argument's length, where all of it stands in the buffer, else 0
+-- the length that copying answered, at most the buffer's; 0 where it answered none
 pub record Copied (given : Option ℕ × List ℕ) (r : ℕ) : Type 0 where
   pub is : r ≡ min (copied_length given.0) (length given.1)
   pub within : r ≤ length given.1

@@ -25,7 +25,8 @@ pub fn got(answer: Option<usize>) -> isize
     }
 }
 
-// How many bytes of a buffer were read, by what the read answered: 0 at the end of the input, and where it cannot be read.
+// How many bytes of a buffer were read, by what the read answered: 0 at the end of the input, and where it cannot
+// be read.
 pub fn count_read(got: isize, buf: &[u8]) -> usize
     ensures { Read (got, buf.now) result }
 {
@@ -35,7 +36,8 @@ pub fn count_read(got: isize, buf: &[u8]) -> usize
     io::count(got, buf)
 }
 
-// How many bytes at the start of a buffer an argument takes, by what copying it there answered: 0 where it is missing, or longer than the buffer.
+// How many bytes at the start of a buffer an argument takes, by what copying it there answered: 0 where it is missing,
+// or longer than the buffer.
 pub fn copied(answer: Option<usize>, buf: &[u8]) -> usize
     ensures { Copied (answer, buf.now) result }
 {

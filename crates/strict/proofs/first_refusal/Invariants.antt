@@ -8,8 +8,9 @@ use Rattle.strict.proofs.first_refusal.Given as goal
 
 abbrev pub invariant-loop-i : goal.invariant-loop-i
 invariant-loop-i l =
-    (l.i ≤ l.records.count) × (first_refusal l.nested (list_of l.records) ≡ first_refusal l.nested
-    (drop l.i (take l.records.count l.records.items)))
+    (l.i ≤ l.records.count)
+    × (first_refusal l.nested (list_of l.records)
+    ≡ first_refusal l.nested (drop l.i (take l.records.count l.records.items)))
 
 abbrev pub decreases-loop-i : goal.decreases-loop-i
 decreases-loop-i l = l.records.count - l.i

@@ -24,8 +24,8 @@ use Rattle.survey.proofs.Classes.{
 use Rattle.survey.proofs.note.Goals as goal
 
 -- the number that was asked for is that of the value's answer
-told : (profile : Profile) (esr n : ℕ) (a : Answer) → a ≡ answer_by profile esr → n ≡ refusal_number a.refusal → n
-    ≡ number_of profile esr
+told : (profile : Profile) (esr n : ℕ) (a : Answer) → a ≡ answer_by profile esr → n ≡ refusal_number a.refusal
+    → n ≡ number_of profile esr
 told profile esr n a d e = e ∙ ap (λ (x : Answer). refusal_number x.refusal) d
 
 -- where a value is refused: at the place of its number

@@ -8,8 +8,9 @@ use Rattle.survey.proofs.note_all.Given as goal
 
 abbrev pub invariant-loop-i : goal.invariant-loop-i
 invariant-loop-i l =
-    (length l.counts ≡ 64) × (length l.refused ≡ 9) × (l.i ≤ length l.values) × Counted
-    (is_of_class l.profile) l.values l.counts l.i × Counted (is_refused_at l.profile) l.values l.refused l.i
+    (length l.counts ≡ 64) × (length l.refused ≡ 9) × (l.i ≤ length l.values)
+    × Counted (is_of_class l.profile) l.values l.counts l.i
+    × Counted (is_refused_at l.profile) l.values l.refused l.i
 
 abbrev pub decreases-loop-i : goal.decreases-loop-i
 decreases-loop-i l = length l.values - l.i

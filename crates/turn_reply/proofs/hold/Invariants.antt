@@ -1,0 +1,15 @@
+-- The invariant: the numbers so far are written.
+use Prim.Native.Nat.{◌-◌, ◌≤◌}
+use mathlib.Core.Path.{◌≡◌}
+use lib.ListN.{length, take}
+use lib.Seq.{sets}
+use Rattle.turn_reply.specs.Turns.{turned}
+use Rattle.turn_reply.proofs.hold.Given as goal
+
+abbrev pub invariant-loop-i : goal.invariant-loop-i
+invariant-loop-i l =
+    (l.i ≤ l.count) × (length l.numbers ≡ length l.initial.numbers)
+    × (l.numbers ≡ sets l.initial.numbers 0 (take l.i (turned l.esr l.index l.number)))
+
+abbrev pub decreases-loop-i : goal.decreases-loop-i
+decreases-loop-i l = l.count - l.i
