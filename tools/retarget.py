@@ -66,7 +66,7 @@ ARCHIVED = {
 }
 # With the functions that are lent the texts compiled into their callers, clang sees that nothing writes to the copy on the stack, and reads the one constant in
 # its place.
-IN_PLACE = ("-mllvm", "-inline-threshold=2500")
+IN_PLACE = ("-mllvm", "-inline-threshold=1000")
 # One of this size is called and not copied: the maker calls it in two places.
 APART = ("layouts::layout_of",)
 # Copies and fills are instructions there, so that nothing is asked for.
