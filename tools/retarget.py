@@ -20,6 +20,7 @@ import platform
 import re
 import shutil
 import tempfile
+from concurrent.futures import ThreadPoolExecutor
 from pathlib import Path
 
 import repository
@@ -66,7 +67,7 @@ ARCHIVED = {
 }
 # With the functions that are lent the texts compiled into their callers, clang sees that nothing writes to the copy on the stack, and reads the one constant in
 # its place.
-IN_PLACE = ("-mllvm", "-inline-threshold=2500")
+IN_PLACE = ("-mllvm", "-inline-threshold=1000")
 # One of this size is called and not copied: the maker calls it in two places.
 APART = ("layouts::layout_of",)
 # Copies and fills are instructions there, so that nothing is asked for.
@@ -153,10 +154,11 @@ def linked(folder, target, *, but):
             (target / entry.name).symlink_to(entry)
 
 
+# What rattle makes of the module is not used: it is not optimised, which would take most of the time.
 KEEPING = """\
 #!/bin/sh
 if [ -f module.bc ]; then cp module.bc "{module}"; fi
-exec "{clang}" "$@"
+exec "{clang}" "$@" -O0 -w
 """
 
 
@@ -431,14 +433,15 @@ def told(names):
 
 
 def object_of(name, machine, tools):
-    """The object file of a program, from the module that was kept when rt built it."""
+    """The object file of a program, from the module that was kept when it was built; one that was made of the same is taken."""
     module = kept(name)
+    made = module.with_suffix(f".{machine}.o")
+    if made.is_file() and max(path.stat().st_mtime for path in (module, Path(__file__))) < made.stat().st_mtime:
+        return made
     text = text_of(module, tools)
-    if machine == "aarch64":
-        text = gathered(retargeted(text, "aarch64-unknown-linux-gnu", {}))
-    else:
-        understood(text)
-    return compiled(module, machine, named(text, name), LINUX[machine], tools)
+    understood(text)
+    own = retargeted(text, "aarch64-unknown-linux-gnu", {}) if machine == "aarch64" else text
+    return compiled(module, machine, named(gathered(own), name), LINUX[machine], tools)
 
 
 def command(names, machine, target):
@@ -446,7 +449,8 @@ def command(names, machine, target):
     tools = toolchain()
     headers(told=told(names))
     target.parent.mkdir(parents=True, exist_ok=True)
-    objects = [object_of(name, machine, tools) for name in names]
+    with ThreadPoolExecutor(repository.processors()) as pool:
+        objects = list(pool.map(lambda name: object_of(name, machine, tools), names))
     for source in (COMMAND, MEMORY):
         objects.append(ROOM / f"{source.stem}.{machine}.o")
         run(tools / "clang", f"--target={machine}-unknown-linux-gnu", *C, "-c", source, "-o", objects[-1])
