@@ -1,18 +1,19 @@
 -- An array that is filled from its front one element at a time, the records of a set, of which each has its slot, and what is answered with them.
 use Prim.Native.Nat.{ℕ, suc, ◌+◌, ◌≤◌, ◌<◌}
+use mathlib.Core.Bool.{true, false}
 use mathlib.Core.List.{List, [], ◌∷◌, ◌++◌, append_assoc}
-use mathlib.Core.Path.{◌≡◌, refl, sym, ap, ◌∙◌}
+use mathlib.Core.Path.{◌≡◌, refl, sym, ap, subst, ◌∙◌}
 use native.Mathlib.Numerals.{add-one}
 use native.Mathlib.Omega.{arith}
 use lib.ListN.{length, get_or, take, drop, set, length-map, get_or-map}
 use lib.Seq.{take-suc, drop-cons, set_at, length-take-le, take-length, get_or-take}
-use borrow.Author.Tests.{eq-eqb, ne_eqb}
-use Rattle.refusals.specs.Refusals.{refusal_number}
+use Rattle.refusals.specs.Refusals.{passed}
 use Rattle.records.specs.Sets.{set_room, no_record}
 use Rattle.records.specs.declared.Records.{Records}
 use Rattle.engine.specs.Words.{words_of}
 use Rattle.esr.specs.Decode.{answer_of}
 use Rattle.esr.specs.declared.Answer.{Answer}
+use Rattle.esr.proofs.Laws.{Roomy, answer-room}
 use Rattle.strict.specs.declared.Profile.TheVariants.{Ordinary}
 use Rattle.capi.specs.Answers.{filled_of}
 use Rattle.capi.specs.Buffers.{filling, front}
@@ -51,13 +52,17 @@ pub slots_count : (s : Records) → length s.items ≡ set_room → s.count ≤ 
 slots_count s slots room =
     length-map (take s.count s.items) words_of ∙ length-take-le s.count s.items (omega arith)
 
--- the refusal of the value, or its records
-module _ (esr : ℕ) {a : Answer} {number : ℕ} (is : a ≡ answer_of esr) (numbered : number ≡ refusal_number a.refusal) (before : List (List ℕ)) where
-  pub decode_refused : {r : Filled} → (number ≡ 0 → ⊥) → r ≡ filled_of a.refusal 0 → (r, before) ≡ decoding Ordinary esr before
-  unfolding decoding
-  decode_refused h e =
-      ap (λ (x : Filled). (x, before)) e ∙ rw (← is) (rw (ne_eqb (refusal_number a.refusal) 0 (λ z. h (numbered ∙ z))) refl)
+-- every answer has room for what it counts; the refusal of the value, or its records
+module _ (esr : ℕ) {a : Answer} (is : a ≡ answer_of esr) where
+  pub room : length a.records.items ≡ set_room → a.records.count ≤ set_room
+  room = subst Roomy (sym is) (answer-room esr)
 
-  pub decode_read : number ≡ 0 → filling (all_words a.records) before ≡ decoding Ordinary esr before
-  unfolding decoding
-  decode_read h = rw (← is) (rw (eq-eqb (refusal_number a.refusal) 0 (sym numbered ∙ h)) refl)
+  module _ (before : List (List ℕ)) where
+    pub decode_refused : {r : Filled} → passed a.refusal ≡ false → r ≡ filled_of a.refusal 0
+        → (r, before) ≡ decoding Ordinary esr before
+    unfolding decoding
+    decode_refused h e = ap (λ (x : Filled). (x, before)) e ∙ rw (← is) (rw h refl)
+
+    pub decode_read : passed a.refusal ≡ true → filling (all_words a.records) before ≡ decoding Ordinary esr before
+    unfolding decoding
+    decode_read h = rw (← is) (rw h refl)

@@ -12,6 +12,7 @@ use capi::Filled;
 use records::Records;
 use refusals::{Reason, Refusal};
 
+// As in `capi`, no plainer as one: `capi` has functions for C alone, and one more public function would need its promise.
 fn filled_of(refusal: Refusal, count: usize) -> Filled
     ensures { result ≡ filled_of refusal count }
 {
@@ -28,11 +29,8 @@ fn put_records(records: Records, slots: &mut [[u64; 2]])
     requires { (records.count ≤ set_room) × (records.count ≤ length slots.old) }
     ensures { (length (all_words records) ≡ records.count) × (slots.new ≡ front (all_words records) slots.old) }
 {
-    let mut i: usize = 0;
-    while i < records.count {
-        let item = records.items[i];
-        slots[i] = engine::slots::words(item);
-        i += 1;
+    for i in 0..records.count {
+        slots[i] = engine::slots::words(records.items[i]);
     }
 }
 
@@ -41,9 +39,8 @@ pub extern "C" fn esr_decode_by_layouts(esr: u64, slots: &mut [[u64; 2]]) -> Fil
     ensures { FilledByLayouts (esr, slots.old) (result, slots.new) }
 {
     let answer = esr::decode_by_layouts(esr);
-    let refusal = answer.refusal;
-    if refusal.number() != 0 {
-        return filled_of(refusal, 0);
+    if answer.refusal.is_refused() {
+        return filled_of(answer.refusal, 0);
     }
     let count = answer.records.count;
     if slots.len() < count {

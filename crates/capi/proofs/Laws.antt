@@ -6,22 +6,23 @@ use mathlib.Core.Path.{◌≡◌, refl, sym, ap, ap₂, ◌∙◌}
 use native.Mathlib.Omega.{arith}
 use lib.Dec.{eqb, leb}
 use lib.ListN.{length}
+use Rattle.std.specs.Prelude.{Result}
 use borrow.Author.Tests.{eq-eqb, ne_eqb, eqb-true, eqb-false, le-leb, lt-leb}
 use Rattle.esr.specs.Decode.{refused, accepted}
 use Rattle.esr.specs.declared.Answer.{Answer}
 use Rattle.written.specs.Outcomes.{Outcome, Answers}
-use Rattle.written.specs.declared.Written.{Written}
 use Rattle.records.specs.Sets.{records_of}
 use Rattle.records.proofs.Laws.{list-of}
 use Rattle.engine.specs.Engine.{readings}
 use Rattle.engine.specs.Words.{words_of, putting}
-use Rattle.refusals.specs.Refusals.{carrying, no_refusal, passed, refusal_number}
+use Rattle.std.specs.Prelude.{Ok, Err}
+use Rattle.refusals.specs.Refusals.{carrying, checked, no_refusal, passed, refusal_number}
 use Rattle.refusals.specs.declared.Reason.TheVariants.{ShortBuffer}
 use Rattle.refusals.specs.declared.Refusal.{Refusal}
 use Rattle.strict.specs.Strict.{answer_by}
 use Rattle.strict.specs.declared.Profile.{Profile}
 use Rattle.capi.specs.Answers.{filled_of}
-use Rattle.capi.specs.Buffers.{front, filling, filled_with, refusing}
+use Rattle.capi.specs.Buffers.{front, filling, filled_by, filled_with, refusing}
 use Rattle.capi.specs.Words.{all_words, decoding, judged_filling}
 use Rattle.capi.specs.declared.Filled.{Filled}
 
@@ -40,12 +41,11 @@ module _ {A : Type 0} (content before : List A) {count : ℕ} (is : count ≡ le
       ap₂ (λ (x : Filled) (l : List A). (x, l)) (e ∙ ap (filled_of no_refusal) is) f
       ∙ simp (le-leb (length content) (length before) (omega arith))
 
--- what is answered with a text of `written` or `listing`
-pub filled_requested : (o : Outcome) (before : List ℕ) {after : List ℕ} {w : Written} {r : Filled} → Answers o before (w, after)
-    → r ≡ filled_of w.refusal w.bytes → (r, after) ≡ filled_with o before
+-- what is answered with a text of `written`, `listing` or `sheets`
+pub filled_requested : (o : Outcome) (before : List ℕ) {after : List ℕ} {w : Result ℕ Refusal} {r : Filled}
+    → Answers o before (w, after) → r ≡ filled_by w → (r, after) ≡ filled_with o before
 unfolding filled_with
-filled_requested o before a e =
-    ap₂ (λ (x : Filled) (l : List ℕ). (x, l)) (e ∙ ap (λ (v : Written). filled_of v.refusal v.bytes) a.0) a.1
+filled_requested o before a e = ap₂ (λ (x : Filled) (l : List ℕ). (x, l)) (e ∙ ap filled_by a.0) a.1
 
 -- The records of an answer.
 
@@ -58,23 +58,14 @@ module _ (profile : Profile) (esr : ℕ) (f : Refusal) (no : (refusal_number f �
   abbrev answering : Answer → Filled × List (List ℕ)
   answering a = cond (passed a.refusal) (filling (all_words a.records) before) (refusing a.refusal before)
 
-  pub judged-decodes : judged_filling f esr before ≡ decoding profile esr before
+  pub judged-decodes : judged_filling (checked f) esr before ≡ decoding profile esr before
   unfolding judged_filling decoding refused accepted
   judged-decodes = by (eqb (refusal_number f) 0) refl
     where
-      by : (b : Bool) → eqb (refusal_number f) 0 ≡ b → cond b (filling (map words_of (readings esr)) before) (refusing f before) ≡ answering (answer_by profile esr)
+      by : (b : Bool) → eqb (refusal_number f) 0 ≡ b
+          → judged_filling (cond b (Ok tt) (Err f)) esr before ≡ answering (answer_by profile esr)
       by true e = ap (λ (l : List (List ℕ)). filling l before) (sym read-words) ∙ ap answering (yes (eqb-true (refusal_number f) 0 e))
       by false e = ap (λ (b : Bool). cond b (filling (all_words (records_of [])) before) (refusing f before)) (sym e) ∙ ap answering (no (eqb-false (refusal_number f) 0 e))
-
--- what is filled, by the test of the judgement
-module _ (f : Refusal) (esr : ℕ) (before : List (List ℕ)) {number : ℕ} (numbered : number ≡ refusal_number f) where
-  pub fill_refused : {r : Filled} → (number ≡ 0 → ⊥) → r ≡ filled_of f 0 → (r, before) ≡ judged_filling f esr before
-  unfolding judged_filling
-  fill_refused h e = ap (λ (x : Filled). (x, before)) e ∙ rw (ne_eqb (refusal_number f) 0 (λ z. h (numbered ∙ z))) refl
-
-  pub fill_read : number ≡ 0 → filling (map words_of (readings esr)) before ≡ judged_filling f esr before
-  unfolding judged_filling
-  fill_read h = rw (eq-eqb (refusal_number f) 0 (sym numbered ∙ h)) refl
 
 -- what the engine put, where there is room and where there is none
 module _ (content before after : List (List ℕ)) (count : ℕ) (put : (count, after) ≡ putting content before) where

@@ -6,23 +6,23 @@ use mathlib.Core.List.{List, ◌++◌}
 use mathlib.Core.Path.{◌≡◌, refl, sym, ap, ◌∙◌}
 use native.Mathlib.Omega.{arith}
 use lib.Dec.{leb}
+use Rattle.std.specs.Prelude.{Ok}
 use lib.ListN.{length, get_or, take, drop, length-drop}
 use lib.Seq.{length-take-le}
 use borrow.Author.Tests.{eqb-true, eqb-false}
 use Rattle.entry.proofs.Laws.{facts, body-sound, body_refused}
 use Rattle.entry.specs.Entries.{judged, sound, body_of}
 use Rattle.written.specs.Outcomes.{Outcome, refused, text, refusal, answered, left}
-use Rattle.written.specs.declared.Written.{Written}
 use Rattle.records.specs.Bits.{field_of}
 use Rattle.records.specs.Kinds.{mark_number}
 use Rattle.records.specs.declared.Record.{Record}
 use Rattle.records.proofs.ByMark.{mark-small}
-use Rattle.refusals.specs.Refusals.{carrying, no_refusal, passed, reason_number}
+use Rattle.refusals.specs.Refusals.{carrying, passed, reason_number}
 use Rattle.refusals.specs.declared.Reason.TheVariants.{ShortBuffer}
 use Rattle.strict.specs.Strict.{answer_by}
 use Rattle.strict.specs.declared.Profile.{Profile}
 use Rattle.capi.specs.Answers.{filled_of, entry_answer}
-use Rattle.capi.specs.Buffers.{filling, filled_with}
+use Rattle.capi.specs.Buffers.{filling, filled_by, filled_with}
 use Rattle.engine.specs.Words.{words_of}
 use Rattle.capi.specs.Words.{all_words, decoding}
 use Rattle.capi.specs.declared.Filled.{Filled}
@@ -52,8 +52,10 @@ filled-kept (refused f) before = record { kept = λ h. refl }
 filled-kept (text t) before = by-room (leb (length t) (length before))
   where
     by-room : (b : Bool)
-        → let w : Written = cond b (record { refusal = no_refusal; bytes = length t }) (refusal (carrying ShortBuffer (length t))) in
-        Kept before (filled_of w.refusal w.bytes, cond b (t ++ drop (length t) before) before)
+        → Kept before (
+          filled_by (cond b (Ok (length t)) (refusal (carrying ShortBuffer (length t)))),
+          cond b (t ++ drop (length t) before) before,
+        )
     by-room true = record { kept = λ h. absurd (h refl) }
     by-room false = record { kept = λ h. refl }
 

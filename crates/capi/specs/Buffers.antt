@@ -1,5 +1,6 @@
--- A caller's array, of bytes or of slots: "Accepted text fills the front of the buffer; the rest stays", and a refusal's buffer is untouched.
-use Rattle.std.specs.Prelude.{ℕ, cond, List, ◌++◌, leb, length, drop}
+-- A caller's array, of bytes or of slots: "Accepted text fills the front of the buffer; the rest stays", and a
+-- refusal's buffer is untouched.
+use Rattle.std.specs.Prelude.{ℕ, cond, List, ◌++◌, leb, length, drop, Result, Ok, Err}
 use Rattle.written.specs.Outcomes.{Outcome, answered, left}
 use Rattle.refusals.specs.Refusals.{carrying, no_refusal}
 use Rattle.refusals.specs.declared.Reason.TheVariants.{ShortBuffer}
@@ -20,6 +21,11 @@ filling content before =
     (filled_of no_refusal (length content), front content before)
     (refusing (carrying ShortBuffer (length content)) before)
 
--- a text of the crates `written` and `listing`, or its refusal: its own answer in numbers, and the buffer as it leaves it
+-- what a function of the crates `written`, `listing` and `sheets` answers, in numbers: the bytes of a text, or a refusal
+abbrev pub filled_by : Result ℕ Refusal → Filled
+filled_by (Ok bytes) = filled_of no_refusal bytes
+filled_by (Err f) = filled_of f 0
+
+-- the same of what is asked for, and the buffer as it leaves it
 unfoldable pub filled_with : Outcome → List ℕ → Filled × List ℕ
-filled_with o before = (filled_of (answered o before).refusal (answered o before).bytes, left o before)
+filled_with o before = (filled_by (answered o before), left o before)

@@ -1,9 +1,9 @@
 -- What each public function promises. A promise takes what comes in, with what a lent array holds at entry, then what comes out, with what it
 -- holds at exit.
-use Rattle.std.specs.Prelude.{ℕ, List, ◌≡◌}
+use Rattle.std.specs.Prelude.{ℕ, List, ◌≡◌, Result}
 use Rattle.listing.specs.Requested.{record_line, listing_of, listing_with_of}
 use Rattle.maker.specs.Promises.{Makes}
-use Rattle.maker.specs.declared.Made.{Made}
+use Rattle.refusals.specs.declared.Refusal.{Refusal}
 use Rattle.sheets.specs.Standard.{standard_sheet}
 use Rattle.written.specs.Outcomes.{text}
 use Rattle.written.specs.Requested.{value_string, binary_string, message_of}
@@ -82,7 +82,7 @@ WalkAnswered (block, before) r = r ≡ (walk_answer (walking Ordinary block befo
 
 -- the value of a class, an IL, an ISS2 and a list of leaf values: what the maker makes of them
 abbrev pub MakeAnswered : ℕ × ℕ × ℕ × List ℕ → NumberAnswer → Type 0
-MakeAnswered (class, il, iss2, leaves) r = (m : Made) × Makes (class, il, iss2, leaves) m × (r ≡ make_answer m)
+MakeAnswered (class, il, iss2, leaves) r = (m : Result ℕ Refusal) × Makes (class, il, iss2, leaves) m × (r ≡ make_answer m)
 
 -- the counts of a run of values, those by class in the caller's table
 abbrev pub SurveyAnswered : List ℕ × List ℕ → SurveyAnswer × List ℕ → Type 0

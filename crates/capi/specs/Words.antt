@@ -1,5 +1,5 @@
 -- The slots of the caller's array: the records of an answer, each in two words of 64 bits.
-use Rattle.std.specs.Prelude.{ℕ, cond, List, map, eqb}
+use Rattle.std.specs.Prelude.{ℕ, cond, List, map, eqb, Result, Ok, Err}
 use Rattle.engine.specs.Engine.{readings}
 use Rattle.engine.specs.Words.{words_of}
 use Rattle.records.specs.Sets.{list_of}
@@ -28,5 +28,6 @@ abbrev pub strict_of : ℕ → Profile
 strict_of nested = cond (eqb nested 0) Strict Nested
 
 -- what is done with a value that was judged: the engine's records of it, or the refusal
-unfoldable pub judged_filling : Refusal → ℕ → List (List ℕ) → Filled × List (List ℕ)
-judged_filling f esr before = cond (passed f) (filling (map words_of (readings esr)) before) (refusing f before)
+unfoldable pub judged_filling : Result Unit Refusal → ℕ → List (List ℕ) → Filled × List (List ℕ)
+judged_filling (Ok u) esr before = filling (map words_of (readings esr)) before
+judged_filling (Err f) esr before = refusing f before

@@ -4,17 +4,21 @@
 #![tactic(auto)]
 
 ghost use Rattle.std.specs.Prelude.{◌≤◌, length, cond, ◌≡◌};
-ghost use Rattle.capi.specs.Answers.{filled_of, phrase_answer};
-ghost use Rattle.capi.specs.Buffers.{front};
+ghost use Rattle.capi.specs.Answers.{filled_of, phrase_answer, sheet_number, survey_answer};
+ghost use Rattle.capi.specs.Buffers.{front, filled_by};
 ghost use Rattle.capi.specs.Words.{decoding, judged_filling};
 ghost use Rattle.capi.specs.Promises.{BinaryFilled, RecordsFilled, EntryAnswered, LineFilled, ListingFilled, MakeAnswered, MessageFilled, NumberAnswered, ReadAnswered, StrictlyFilled, SurveyAnswered, TextFilled, ValueFilled, WalkAnswered, ListingWithFilled, PhraseAnswered, SheetFilled};
 ghost use Rattle.refusals.specs.Refusals.{passed};
 ghost use Rattle.texts.specs.Pool.{bytes_at};
 
-use phrases::{Found, NEITHER};
+use entry::Entry;
+use phrases::{Found, Sheet};
 use refusals::{Reason, Refusal};
 use strict::{Profile, decode_by};
-use written::Written;
+use survey::Tally;
+use walk::Walked;
+
+// Kept in the answers below (the C interface): a refusal in numbers beside what is answered, and the sheet's number.
 
 // How many slots or bytes the front of the caller's array now holds; none on a refusal.
 #[repr(C)]
@@ -117,19 +121,21 @@ fn filled_of(refusal: Refusal, count: usize) -> Filled
     }
 }
 
-// What a function of `written` or `listing` wrote, or refused.
-fn filled_by_text(written: Written) -> Filled
-    ensures { result ≡ filled_of written.refusal written.bytes }
+// What a function of `written`, `listing` or `sheets` wrote, or refused.
+fn filled_by_text(written: Result<usize, Refusal>) -> Filled
+    ensures { result ≡ filled_by written }
 {
-    let refusal = written.refusal;
-    filled_of(refusal, written.bytes)
+    match written {
+        Ok(bytes) => filled_of(Refusal::NONE, bytes),
+        Err(refusal) => filled_of(refusal, 0),
+    }
 }
 
 // The records of a value that was judged: none where it is refused, else each written once, into the caller's own slots.
-fn fill(refusal: Refusal, esr: u64, slots: &mut [[u64; 2]]) -> Filled
-    ensures { (result, slots.new) ≡ judged_filling refusal esr slots.old }
+fn fill(judged: Result<(), Refusal>, esr: u64, slots: &mut [[u64; 2]]) -> Filled
+    ensures { (result, slots.new) ≡ judged_filling judged esr slots.old }
 {
-    if refusal.number() != 0 {
+    if let Err(refusal) = judged {
         return filled_of(refusal, 0);
     }
     let count = engine::slots::put_records(esr, slots);
@@ -150,8 +156,7 @@ fn fill_by(profile: Profile, esr: u64, slots: &mut [[u64; 2]]) -> Filled
     ensures { (result, slots.new) ≡ decoding profile esr slots.old }
 {
     let answer = decode_by(profile, esr);
-    let refusal = answer.refusal;
-    fill(refusal, esr, slots)
+    fill(answer.refusal.check(), esr, slots)
 }
 
 // Any number but 0 says that the core has nested virtualisation.
@@ -246,14 +251,28 @@ pub extern "C" fn esr_standard_sheet(buf: &mut [u8]) -> Filled
     filled_by_text(sheets::standard_sheet(buf))
 }
 
-fn phrase_answer(refusal: Refusal, found: Found) -> PhraseAnswer
+// What C is told of the sheet that has a phrase: 0 is that none has one.
+fn sheet_number(sheet: Sheet) -> u8
+    ensures { result ≡ sheet_number sheet }
+{
+    match sheet {
+        Sheet::Workshop => 1,
+        Sheet::Standard => 2,
+    }
+}
+
+fn phrase_answer(refusal: Refusal, found: Option<Found>) -> PhraseAnswer
     ensures { result ≡ phrase_answer refusal found }
 {
+    let (offset, length, sheet) = match found {
+        Some(phrase) => (phrase.start, phrase.count, sheet_number(phrase.sheet)),
+        None => (0, 0, 0),
+    };
     PhraseAnswer {
         carried: refusal.carries,
-        offset: found.start,
-        length: found.count,
-        sheet: found.sheet,
+        offset,
+        length,
+        sheet,
         refusal: refusal.number(),
         start: refusal.start,
         width: refusal.width,
@@ -265,15 +284,8 @@ pub extern "C" fn esr_phrase(workshop: &[u8], standard: &[u8], code: u16) -> Phr
     ensures { PhraseAnswered (workshop.now, standard.now, code) result }
 {
     let refusal = phrases::sheets_refusal(workshop, standard);
-    if refusal.number() != 0 {
-        return phrase_answer(
-            refusal,
-            Found {
-                start: 0,
-                count: 0,
-                sheet: NEITHER,
-            },
-        );
+    if refusal.is_refused() {
+        return phrase_answer(refusal, None);
     }
     phrase_answer(refusal, phrases::find(workshop, standard, code))
 }
@@ -294,18 +306,27 @@ pub extern "C" fn esr_parse_number(s: &[u8]) -> NumberAnswer
 }
 
 #[unsafe(no_mangle)]
+#[tactic(auto, unfolding(crate::specs::Answers::read_answer))]
 pub extern "C" fn esr_read_number(s: &[u8]) -> ReadAnswer
     ensures { ReadAnswered s.now result }
 {
-    let read = number::read_number(s);
-    let refusal = read.refusal;
-    ReadAnswer {
-        value: read.value,
-        carried: refusal.carries,
-        taken: read.taken,
-        refusal: refusal.number(),
-        start: refusal.start,
-        width: refusal.width,
+    match number::read_number(s) {
+        Ok(read) => ReadAnswer {
+            value: read.value,
+            carried: 0,
+            taken: read.taken,
+            refusal: 0,
+            start: 0,
+            width: 0,
+        },
+        Err(refusal) => ReadAnswer {
+            value: 0,
+            carried: refusal.carries,
+            taken: 0,
+            refusal: refusal.number(),
+            start: refusal.start,
+            width: refusal.width,
+        },
     }
 }
 
@@ -313,18 +334,23 @@ pub extern "C" fn esr_read_number(s: &[u8]) -> ReadAnswer
 fn body_start(refusal: Refusal) -> usize
     ensures { result ≡ cond (passed refusal) 2 0 }
 {
-    if refusal.number() == 0 {
-        return LENGTH_BYTES;
+    if refusal.is_refused() {
+        return 0;
     }
-    0
+    LENGTH_BYTES
 }
 
+// The C interface: C gets numbers of 0 beside a refusal.
 #[unsafe(no_mangle)]
 pub extern "C" fn esr_read_entry(block: &[u8]) -> EntryAnswer
     ensures { EntryAnswered block.now result }
 {
-    let numbers = entry::read_entry(block);
-    let refusal = numbers.refusal;
+    let read = entry::read_entry(block);
+    let numbers = read.unwrap_or(Entry {
+        esr: 0,
+        sequence: 0,
+    });
+    let refusal = read.err().unwrap_or(Refusal::NONE);
     let body = entry::entry_body(block);
     EntryAnswer {
         esr: numbers.esr,
@@ -342,9 +368,15 @@ pub extern "C" fn esr_read_entry(block: &[u8]) -> EntryAnswer
 pub extern "C" fn esr_walk(block: &[u8], steps: &mut [u16]) -> WalkAnswer
     ensures { WalkAnswered (block.now, steps.old) (result, steps.new) }
 {
-    let walked = walk::walk(Profile::Ordinary, block, steps);
-    let refusal = walked.refusal;
-    let ended = walked.ended;
+    let answer = walk::walk(Profile::Ordinary, block, steps);
+    let walked = answer.unwrap_or(Walked {
+        entries: 0,
+        decoded: 0,
+        offset: 0,
+        ended: None,
+    });
+    let refusal = answer.err().unwrap_or(Refusal::NONE);
+    let ended = walked.ended.unwrap_or(Refusal::NONE);
     WalkAnswer {
         carried: refusal.carries,
         entries: walked.entries,
@@ -361,14 +393,42 @@ pub extern "C" fn esr_walk(block: &[u8], steps: &mut [u16]) -> WalkAnswer
 pub extern "C" fn esr_make(class: u64, il: u64, iss2: u64, leaves: &[u64]) -> NumberAnswer
     ensures { MakeAnswered (class, il, iss2, leaves.now) result }
 {
-    let made = maker::make(class, il, iss2, leaves);
-    let refusal = made.refusal;
-    NumberAnswer {
-        value: made.value,
-        carried: refusal.carries,
-        refusal: refusal.number(),
-        start: refusal.start,
-        width: refusal.width,
+    match maker::make(class, il, iss2, leaves) {
+        Ok(value) => NumberAnswer {
+            value,
+            carried: 0,
+            refusal: 0,
+            start: 0,
+            width: 0,
+        },
+        Err(refusal) => NumberAnswer {
+            value: 0,
+            carried: refusal.carries,
+            refusal: refusal.number(),
+            start: refusal.start,
+            width: refusal.width,
+        },
+    }
+}
+
+fn survey_answer(answer: Result<Tally, Refusal>) -> SurveyAnswer
+    ensures { result ≡ survey_answer answer }
+{
+    match answer {
+        Ok(tally) => SurveyAnswer {
+            carried: 0,
+            refused: tally.ordinary(),
+            refusal: 0,
+            start: 0,
+            width: 0,
+        },
+        Err(refusal) => SurveyAnswer {
+            carried: refusal.carries,
+            refused: [0; 7],
+            refusal: refusal.number(),
+            start: refusal.start,
+            width: refusal.width,
+        },
     }
 }
 
@@ -376,14 +436,5 @@ pub extern "C" fn esr_make(class: u64, il: u64, iss2: u64, leaves: &[u64]) -> Nu
 pub extern "C" fn esr_survey(values: &[u64], counts: &mut [u32]) -> SurveyAnswer
     ensures { SurveyAnswered (values.now, counts.old) (result, counts.new) }
 {
-    let tally = survey::survey(Profile::Ordinary, values, counts);
-    let refusal = tally.refusal;
-    let refused = tally.ordinary();
-    SurveyAnswer {
-        carried: refusal.carries,
-        refused,
-        refusal: refusal.number(),
-        start: refusal.start,
-        width: refusal.width,
-    }
+    survey_answer(survey::survey(Profile::Ordinary, values, counts))
 }

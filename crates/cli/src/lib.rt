@@ -50,6 +50,7 @@ fn answer_part(
     let mut line = from;
     let mut next: usize = 0;
     let mut at: usize = 0;
+    // Kept, no plainer: each line gives the next offset.
     while next < part.len() {
         let taken = line_reader::take_line(line, part, next);
         line = taken.state;
@@ -74,20 +75,18 @@ fn answer_last(kind: Kind, rest: Rest, line: NumberState, buf: &mut [u8]) -> usi
     streams::flush(buf, end)
 }
 
-// A proved loop has to end, and nothing says that an input does: it counts down from a number of reads that no run uses up.
+// A proved loop has to end, and nothing says that an input does: it makes more reads than any run uses up.
 fn answer_all(kind: Kind, rest: Rest, mut stdin: Stdin, part: &mut [u8], buf: &mut [u8]) -> usize
     ensures { result ≡ 0 }
 {
     let mut line = NumberState::start();
-    let mut turns = u64::MAX;
-    while 0 < turns {
+    'reads: for _ in 0..u64::MAX {
         let got = streams::got(stdin.read(part).ok());
         let n = streams::count_read(got, part);
         if n == 0 {
             return answer_last(kind, rest, line, buf);
         }
         line = answer_part(kind, rest, line, &part[0..n], buf);
-        turns -= 1;
     }
     0
 }

@@ -8,7 +8,7 @@ use native.Mathlib.Numerals.{add-one}
 use native.Mathlib.Omega.{arith}
 use lib.Dec.{ltb}
 use lib.ListN.{length, get_or, drop, drop_of_length-le, length-take, get_or-eq_default}
-use lib.Seq.{drop-cons, take_all, get_or-take, length-take-le}
+use lib.Seq.{drop-cons, get_or-take}
 use borrow.Author.Tests.{ltb-true, ltb-false}
 use Rattle.buffer.specs.Appending.{Appends}
 use Rattle.buffer.proofs.Appending.{and_then}
@@ -19,15 +19,6 @@ use Rattle.diff_reply.specs.Replies.{same_field, side_by_side, side_from}
 use Rattle.diff_reply.specs.Steps.{Left, Puts, Step, left_at, next_side, of_first, of_second, part_of, side_of}
 use Rattle.diff_reply.specs.declared.Side.{Side}
 use Rattle.diff_reply.specs.declared.Side.TheVariants.{First, Second, Both}
-
--- The records that a set counts.
-
-module _ (s : Records) (long : length s.items ≡ set_room) where
-  pub counted-all : set_room < s.count → set_room ≡ length (list_of s)
-  counted-all h = sym (ap length (take_all s.count s.items (omega (arith, h, long))) ∙ long)
-
-  pub counted-some : s.count ≤ set_room → s.count ≡ length (list_of s)
-  counted-some h = sym (length-take-le s.count s.items (omega (arith, h, long)))
 
 pub record_here : (s : Records) (i : ℕ) → length (list_of s) ≤ set_room → record_at s i ≡ get_or (list_of s) i no_record
 unfolding record_at

@@ -1,11 +1,12 @@
 -- The steps in which two lists are put side by side. No promise rests on this: the code takes one step at a time.
 use Rattle.std.specs.Prelude.{ℕ, ◌+◌, ◌≤◌, ◌<◌, cond, List, [], ◌∷◌, ◌++◌, ◌≡◌, ltb, length, drop}
 use Rattle.buffer.specs.Appending.{Appends}
-use Rattle.diff_reply.specs.Replies.{both_part, first_part, same_field, second_part, side_from}
+use Rattle.diff_reply.specs.Replies.{both_part, first_part, same_field, second_part, side_by_side, side_from}
+use Rattle.diff_reply.specs.declared.Pair.{Pair}
 use Rattle.diff_reply.specs.declared.Side.{Side}
 use Rattle.diff_reply.specs.declared.Side.TheVariants.{First, Second, Both}
 use Rattle.diff_reply.specs.declared.Turn.{Turn}
-use Rattle.records.specs.Sets.{set_room}
+use Rattle.records.specs.Sets.{list_of, record_at, set_room}
 use Rattle.records.specs.declared.Record.{Record}
 
 -- which of the two has the next part, as `side_from` has it: of a record of each, and of what is left of each
@@ -55,3 +56,20 @@ pub record Step (v w : ℕ) (xs ys : List Record) (i j : ℕ) (from : ℕ × Lis
   pub further : i + j < t.first + t.second
   pub first : t.first ≤ length xs
   pub second : t.second ≤ length ys
+
+-- the same of a pair, from where a turn stands
+abbrev pub turn_side : Pair → Turn → Side
+turn_side p t = next_side (drop t.first (list_of p.first.now)) (drop t.second (list_of p.second.now))
+
+abbrev pub turn_part : Pair → Turn → Side → List ℕ
+turn_part p t side =
+    part_of p.v p.w side t.first t.second (record_at p.first.now t.first) (record_at p.second.now t.second)
+
+abbrev pub TurnLeft : Pair → Turn → Type 0
+TurnLeft p t = Left (list_of p.first.now) (list_of p.second.now) t.first t.second
+
+abbrev pub TurnStep : Pair → Turn → List ℕ → Turn → List ℕ → Type 0
+TurnStep p t before = Step p.v p.w (list_of p.first.now) (list_of p.second.now) t.first t.second (t.next, before)
+
+abbrev pub pair_text : Pair → List ℕ
+pair_text p = side_by_side p.v p.w (list_of p.first.now) (list_of p.second.now)

@@ -1,11 +1,13 @@
-// What `esr diff` says of two values, byte for byte, in a lent buffer from an offset on: the records of both side by side, or why a value is refused (#114).
+// What `esr diff` says of two values, byte for byte, in a lent buffer from an offset on: the records of both side by
+// side, or why a value is refused (#114).
 #![tactic(auto)]
 
-ghost use Rattle.std.specs.Prelude.{◌≤◌, drop, length, ◌≡◌};
+ghost use Rattle.std.specs.Prelude.{◌≤◌, length, ◌≡◌};
 ghost use Rattle.buffer.specs.Appending.{Appends};
 ghost use Rattle.diff_reply.specs.Promises.{DiffReply, NotTwo};
-ghost use Rattle.diff_reply.specs.Replies.{both_named, both_part, other_rows, refused_part, same_field, same_record, side_by_side};
-ghost use Rattle.diff_reply.specs.Steps.{Left, Step, next_side, of_first, of_second, part_of, side_of};
+ghost use Rattle.diff_reply.specs.Replies.{both_named, both_part, other_rows, refused_part, same_field, same_record};
+ghost use Rattle.diff_reply.specs.Steps.{TurnLeft, TurnStep, pair_text, turn_part, turn_side};
+ghost use Rattle.diff_reply.specs.Steps.{of_first, of_second, side_of};
 ghost use Rattle.records.specs.Sets.{list_of};
 
 use buffer::put_bytes;
@@ -16,6 +18,7 @@ use records::{Record, Records};
 use reply_lines::{put_number_line, put_refusal};
 
 // Whether two records are of a row that both readings have.
+#[tactic(auto, unfolding(crate::specs::Replies::same_field))]
 fn same_field(x: Record, y: Record) -> bool
     ensures { result ≡ same_field x y }
 {
@@ -23,52 +26,18 @@ fn same_field(x: Record, y: Record) -> bool
 }
 
 // Whether two records of such a row are equal.
+#[tactic(auto, unfolding(crate::specs::Replies::same_record))]
 fn same_record(x: Record, y: Record) -> bool
     ensures { result ≡ same_record x y }
 {
-    let mark = x.mark;
-    let other = y.mark;
-    (x.value == y.value) & (x.text == y.text) & (mark.number() == other.number())
-}
-
-// Whether a condition of either class names a record's field, or it is the class.
-fn both_named(first: u64, second: u64, x: Record) -> bool
-    ensures { result ≡ both_named first second x }
-{
-    let a = is_named(records::field(first, 26, 6), x.start, x.width);
-    let b = is_named(records::field(second, 26, 6), x.start, x.width);
-    a | b
-}
-
-// A row that both have.
-fn put_both(
-    buf: &mut [u8],
-    at: usize,
-    first: u64,
-    second: u64,
-    index: usize,
-    x: Record,
-    y: Record,
-) -> usize
-    ensures { Appends (both_part first second index x y) (at, buf.old) (result, buf.new) }
-{
-    if same_record(x, y) {
-        return put_marked(buf, at, b"  ", index, x);
-    }
-    if both_named(first, second, x) {
-        return put_changed(buf, at, b"! ", index, x, y);
-    }
-    put_changed(buf, at, b"* ", index, x, y)
+    (x.value == y.value) & (x.text == y.text) & (x.mark == y.mark)
 }
 
 // How many records a set counts: a count past its room counts all that it holds.
 fn counted(records: Records) -> usize
     ensures { (result ≡ length (list_of records)) × (result ≤ 19) }
 {
-    if Records::MAX < records.count {
-        return Records::MAX;
-    }
-    records.count
+    records.count.min(Records::MAX)
 }
 
 // Which reading has the next part.
@@ -79,54 +48,43 @@ enum Side {
     Both,
 }
 
-// Of two records: both, if they are of one row; else the one with the higher start goes first.
-fn side_of(x: Record, y: Record) -> Side
-    ensures { result ≡ side_of x y }
-{
-    if same_field(x, y) {
-        return Side::Both;
+impl Side {
+    // Of two records: both, if they are of one row; else the one with the higher start goes first.
+    #[tactic(auto, unfolding(crate::specs::Steps::side_of))]
+    fn of(x: Record, y: Record) -> Self
+        ensures { result ≡ side_of x y }
+    {
+        if same_field(x, y) {
+            return Side::Both;
+        }
+        if x.start < y.start {
+            return Side::Second;
+        }
+        Side::First
     }
-    if x.start < y.start {
-        return Side::Second;
-    }
-    Side::First
-}
 
-// A reading that has no record left leaves the part to the other.
-fn next_side(first: Records, second: Records, i: usize, j: usize) -> Side
-    ensures { result ≡ next_side (drop i (list_of first)) (drop j (list_of second)) }
-{
-    if counted(second) <= j {
-        return Side::First;
+    // How many records of the first list the part takes.
+    fn of_first(self) -> usize
+        ensures { (result ≡ of_first self) × (result ≤ 1) }
+    {
+        match self {
+            Side::First | Side::Both => 1,
+            Side::Second => 0,
+        }
     }
-    if counted(first) <= i {
-        return Side::Second;
-    }
-    side_of(first.at(i), second.at(j))
-}
 
-// The part of a side: of either alone, under its mark, or of both.
-fn put_part(
-    buf: &mut [u8],
-    at: usize,
-    v: u64,
-    w: u64,
-    side: Side,
-    i: usize,
-    j: usize,
-    x: Record,
-    y: Record,
-) -> usize
-    ensures { Appends (part_of v w side i j x y) (at, buf.old) (result, buf.new) }
-{
-    match side {
-        Side::First => put_marked(buf, at, b"< ", i, x),
-        Side::Second => put_marked(buf, at, b"> ", j, y),
-        Side::Both => put_both(buf, at, v, w, i, x, y),
+    // And of the second.
+    fn of_second(self) -> usize
+        ensures { (result ≡ of_second self) × (result ≤ 1) }
+    {
+        match self {
+            Side::First => 0,
+            Side::Second | Side::Both => 1,
+        }
     }
 }
 
-// Where the two lists stand after a step.
+// Where the text and the two lists stand.
 #[derive(Clone, Copy)]
 struct Turn {
     next: usize,
@@ -134,98 +92,122 @@ struct Turn {
     second: usize,
 }
 
-// How many records of the first list the part takes.
-fn of_first(side: Side) -> usize
-    ensures { (result ≡ of_first side) × (result ≤ 1) }
-{
-    match side {
-        Side::First => 1,
-        Side::Second => 0,
-        Side::Both => 1,
-    }
-}
-
-// And of the second.
-fn of_second(side: Side) -> usize
-    ensures { (result ≡ of_second side) × (result ≤ 1) }
-{
-    match side {
-        Side::First => 0,
-        Side::Second => 1,
-        Side::Both => 1,
-    }
-}
-
-// One part: of both, or of the one that goes first.
-fn put_step(
-    buf: &mut [u8],
-    at: usize,
+// Two values, and the records of each.
+#[derive(Clone, Copy)]
+struct Pair<'a> {
     v: u64,
     w: u64,
-    first: Records,
-    second: Records,
-    i: usize,
-    j: usize,
-) -> Turn
-    requires { Left (list_of first) (list_of second) i j }
-    ensures { Step v w (list_of first) (list_of second) i j (at, buf.old) result buf.new }
-{
-    let side = next_side(first, second, i, j);
-    let next = put_part(buf, at, v, w, side, i, j, first.at(i), second.at(j));
-    Turn {
-        next,
-        first: i + of_first(side),
-        second: j + of_second(side),
-    }
+    first: &'a Records,
+    second: &'a Records,
 }
 
-fn put_side_by_side(
-    buf: &mut [u8],
-    at: usize,
-    v: u64,
-    w: u64,
-    first: Records,
-    second: Records,
-) -> usize
-    ensures { Appends (side_by_side v w (list_of first) (list_of second)) (at, buf.old) (result, buf.new) }
-{
-    let all = counted(first) + counted(second);
-    let mut next = at;
-    let mut i: usize = 0;
-    let mut j: usize = 0;
-    while i + j < all {
-        let turn = put_step(buf, next, v, w, first, second, i, j);
-        next = turn.next;
-        i = turn.first;
-        j = turn.second;
+impl Pair<'_> {
+    // Whether a condition of either class names a record's field, or it is the class.
+    #[tactic(auto, unfolding(crate::specs::Replies::both_named))]
+    fn both_named(self, x: Record) -> bool
+        ensures { result ≡ both_named self.entry.v self.entry.w x }
+    {
+        let a = is_named(records::field(self.v, 26, 6), x.start, x.width);
+        let b = is_named(records::field(self.w, 26, 6), x.start, x.width);
+        a | b
     }
-    next
-}
 
-fn put_other_rows(buf: &mut [u8], at: usize, v: u64, w: u64) -> usize
-    ensures { Appends (other_rows v w) (at, buf.old) (result, buf.new) }
-{
-    if same_rows(v, w) {
-        return at;
+    // A row that both have.
+    #[tactic(auto, unfolding(crate::specs::Replies::both_part, texts::specs::Pool::bytes))]
+    fn put_both(self, buf: &mut [u8], at: usize, index: usize, x: Record, y: Record) -> usize
+        ensures { Appends (both_part self.entry.v self.entry.w index x y) (at, buf.old) (result, buf.new) }
+    {
+        if same_record(x, y) {
+            return put_marked(buf, at, b"  ", index, x);
+        }
+        if self.both_named(x) {
+            return put_changed(buf, at, b"! ", index, x, y);
+        }
+        put_changed(buf, at, b"* ", index, x, y)
     }
-    put_bytes(
-        buf,
-        at,
-        b"other rows: the fields marked ! decide which there are\n",
-    )
+
+    // A reading that has no record left leaves the part to the other.
+    fn next_side(self, turn: Turn) -> Side
+        ensures { result ≡ turn_side self.entry turn }
+    {
+        if counted(*self.second) <= turn.second {
+            return Side::First;
+        }
+        if counted(*self.first) <= turn.first {
+            return Side::Second;
+        }
+        Side::of(self.first.at(turn.first), self.second.at(turn.second))
+    }
+
+    // The part of a side: of either alone, under its mark, or of both.
+    #[tactic(auto, unfolding(crate::specs::Steps::part_of, crate::specs::Replies::first_part, crate::specs::Replies::second_part, texts::specs::Pool::bytes))]
+    fn put_part(self, buf: &mut [u8], turn: Turn, side: Side) -> usize
+        ensures { Appends (turn_part self.entry turn side) (turn.next, buf.old) (result, buf.new) }
+    {
+        let x = self.first.at(turn.first);
+        let y = self.second.at(turn.second);
+        match side {
+            Side::First => put_marked(buf, turn.next, b"< ", turn.first, x),
+            Side::Second => put_marked(buf, turn.next, b"> ", turn.second, y),
+            Side::Both => self.put_both(buf, turn.next, turn.first, x, y),
+        }
+    }
+
+    // One part: of both, or of the one that goes first.
+    fn put_step(self, buf: &mut [u8], turn: Turn) -> Turn
+        requires { TurnLeft self turn }
+        ensures { TurnStep self.entry turn buf.old result buf.new }
+    {
+        let side = self.next_side(turn);
+        Turn {
+            next: self.put_part(buf, turn, side),
+            first: turn.first + side.of_first(),
+            second: turn.second + side.of_second(),
+        }
+    }
+
+    fn put_side_by_side(self, buf: &mut [u8], at: usize) -> usize
+        ensures { Appends (pair_text self.entry) (at, buf.old) (result, buf.new) }
+    {
+        // No plainer as a `for`: how far each list goes in a turn is told by the records themselves.
+        let all = counted(*self.first) + counted(*self.second);
+        let mut turn = Turn {
+            next: at,
+            first: 0,
+            second: 0,
+        };
+        while turn.first + turn.second < all {
+            turn = self.put_step(buf, turn);
+        }
+        turn.next
+    }
+
+    #[tactic(auto, using(buffer::proofs::Appending::none), unfolding(crate::specs::Replies::other_rows, texts::specs::Pool::bytes))]
+    fn put_other_rows(self, buf: &mut [u8], at: usize) -> usize
+        ensures { Appends (other_rows self.entry.v self.entry.w) (at, buf.old) (result, buf.new) }
+    {
+        if same_rows(self.v, self.w) {
+            return at;
+        }
+        put_bytes(
+            buf,
+            at,
+            b"other rows: the fields marked ! decide which there are\n",
+        )
+    }
 }
 
 // Of an accepted value nothing is said.
+#[tactic(auto, using(buffer::proofs::Appending::none), unfolding(crate::specs::Replies::refused_part))]
 fn put_refused_part(buf: &mut [u8], at: usize, esr: u64) -> usize
     ensures { Appends (refused_part esr) (at, buf.old) (result, buf.new) }
 {
     let answer = esr::decode(esr);
-    let refusal = answer.refusal;
-    if refusal.number() == 0 {
+    if !answer.refusal.is_refused() {
         return at;
     }
     let next = put_number_line(buf, at, b"> 0x", Base::Hex, esr);
-    put_refusal(buf, next, refusal)
+    put_refusal(buf, next, answer.refusal)
 }
 
 pub fn put_diff_reply(buf: &mut [u8], at: usize, first: u64, second: u64) -> usize
@@ -233,17 +215,22 @@ pub fn put_diff_reply(buf: &mut [u8], at: usize, first: u64, second: u64) -> usi
 {
     let one = esr::decode(first);
     let two = esr::decode(second);
-    let x = one.refusal;
-    let y = two.refusal;
-    if (x.number() == 0) & (y.number() == 0) {
-        let next = put_side_by_side(buf, at, first, second, one.records, two.records);
-        return put_other_rows(buf, next, first, second);
+    if one.refusal.is_refused() | two.refusal.is_refused() {
+        let next = put_refused_part(buf, at, first);
+        return put_refused_part(buf, next, second);
     }
-    let next = put_refused_part(buf, at, first);
-    put_refused_part(buf, next, second)
+    let pair = Pair {
+        v: first,
+        w: second,
+        first: &one.records,
+        second: &two.records,
+    };
+    let next = pair.put_side_by_side(buf, at);
+    pair.put_other_rows(buf, next)
 }
 
 // Another count of numbers than two.
+#[tactic(auto, unfolding(crate::specs::Replies::not_two, texts::specs::Pool::bytes))]
 pub fn put_not_two(buf: &mut [u8], at: usize, count: u64) -> usize
     ensures { NotTwo (buf.old, at, count) (result, buf.new) }
 {

@@ -7,26 +7,16 @@ use Prim.Native.Nat.{ℕ, zero, suc, ◌+◌, ◌-◌, ◌*◌, ◌/◌, ◌%◌
 use native.Mathlib.Nat.{div-div-eq-div-mul, pow-suc, zero-add, zero-div, zero-mod, div-eq_of_lt, div-lt_iff_lt-mul, one-mul, mul_comm, mul_assoc, add-mul, div-add-mod, mul-add-mod_self_left, mul-suc, mul-zero, mul-le-mul_left, pow-zero, suc-add, not-suc-le-zero, one-le-pow, pow-le-pow_left, pow-le-pow_right, le-div_iff_mul-le}
 use native.Mathlib.Omega.{arith}
 use borrow.Author.Tests.{lt-ltb, le-ltb, ltb-true, ltb-false}
-use lib.Dec.{T, eqb, eqb→eq, ltb}
+use lib.Dec.{ltb}
 use lib.ListN.{length, replicate, set, take, length-set}
 use lib.Pow.{pow-add, pow_mono, field, shl-shr, shr-shr, shr_lt}
 use lib.Seq.{sets, set_out, take-nil}
-use Rattle.promise.proofs.Tests.{from, from_at}
 use Rattle.texts.specs.Pool.{bytes}
 use Rattle.digits.specs.Digits.{digit_char, digits_of, enough, unpadded, radix_of}
 use Rattle.digits.specs.declared.Base.{Base}
 use Rattle.digits.specs.declared.Base.TheVariants.{Binary, Decimal, Hex}
 use Rattle.buffer.proofs.Appending.{offset-is}
 use Rattle.buffer.specs.Appending.{offset, room, appended, Appends}
-
--- a run of the sixteen digits, each so far above its value
-abbrev char : ℕ → ℕ → Bool
-char first d = eqb (first + d) (digit_char d)
-
-pub char-at : (first start count : ℕ) → T (from (char first) start count) → (d : ℕ) → start ≤ d → d < start + count → first + d ≡ digit_char d
-char-at first start count all d above below =
-    let e : start + (d - start) ≡ d = omega arith in
-    eqb→eq (first + d) (digit_char d) (subst (λ k. T (char first k)) e (from_at (char first) start count (d - start) all (omega arith)))
 
 pub length_digits : (base n v : ℕ) → length (digits_of base n v) ≡ n
 unfolding digits_of
@@ -51,14 +41,6 @@ pow-pow k (suc m) = rw (pow-suc, mul-suc, pow-add, pow-pow k m)
 
 mod-mul : (a b n : ℕ) → a % n * b % n ≡ a * b % n
 mod-mul a b n = sym (mul-add-mod_self_left n (a / n * b) (a % n * b)) ∙ ap (λ (x : ℕ). x % n) (rw (← mul_assoc, ← add-mul) (ap (λ (x : ℕ). x * b) (div-add-mod a n)))
-
--- the loop that puts as many of n digits as a buffer takes: after a turn one digit less is left, and the next place is one further
-module _ (n count left : ℕ) (more : 0 < left) (within : left ≤ count) (taken : count ≤ n) where
-  pub one_fewer : n - (count - left) ≡ suc (n - (count - (left - 1)))
-  one_fewer = omega arith
-
-  pub one_further : (at : ℕ) → at + (count - (left - 1)) ≡ suc (at + (count - left))
-  one_further at = omega arith
 
 -- where m + 1 digits of `size` bits are left, the next stands on top of a word of 64 bits
 module _ (size n v m : ℕ) (most : size * n ≤ 64) (in-n : m < n) where

@@ -2,7 +2,7 @@
 // they are groups of the number's bits, found by shifts, highest first; decimal ones are found by division, lowest first.
 #![tactic(auto)]
 
-ghost use Rattle.std.specs.Prelude.{◌+◌, ◌-◌, ◌*◌, ◌/◌, ◌^◌, ◌≤◌, ◌<◌, length, ◌≡◌};
+ghost use Rattle.std.specs.Prelude.{◌*◌, ◌/◌, ◌^◌, ◌≤◌, ◌<◌, ◌≡◌};
 ghost use Rattle.buffer.specs.Appending.{Appends};
 ghost use Rattle.digits.specs.Digits.{digit_char, digits_of, radix_of, unpadded};
 ghost use Rattle.digits.specs.Promises.{DigitsPut, NumberPut};
@@ -21,23 +21,7 @@ fn digit(d: u64) -> u8
     requires { d < 16 }
     ensures { result ≡ digit_char d }
 {
-    if d < 10 {
-        return b'0' + d as u8;
-    }
-    b'a' - 10 + d as u8
-}
-
-// How many of n bytes a buffer takes from an offset on.
-fn taken(buf: &[u8], at: usize, n: usize) -> usize
-    ensures { (result ≤ n) × (result ≤ length buf.now - at) × (result < n → length buf.now ≤ at + result) }
-{
-    if buf.len() <= at {
-        return 0;
-    }
-    if n <= buf.len() - at {
-        return n;
-    }
-    buf.len() - at
+    b"0123456789abcdef"[d as usize]
 }
 
 // Digits of `size` bits each, as far as the buffer goes. The next one stands on top of a word.
@@ -46,17 +30,15 @@ fn put_word(buf: &mut [u8], at: usize, size: usize, n: usize, value: u64) -> usi
     ensures { Appends (digits_of (2 ^ size) n value) (at, buf.old) (result, buf.new) }
 {
     let next = buffer::offset_after(at, n);
-    let count = taken(buf, at, n);
+    let count = n.min(buf.len().saturating_sub(at));
     // None is asked for, or none has a place.
     if count == 0 {
         return next;
     }
-    let mut left = count;
     let mut top = value << (64 - size * n);
-    while 0 < left {
-        buf[at + (count - left)] = digit(top >> (64 - size));
+    for i in 0..count {
+        buf[at + i] = digit(top >> (64 - size));
         top = top << size;
-        left -= 1;
     }
     next
 }
@@ -78,13 +60,11 @@ fn put_groups(buf: &mut [u8], at: usize, size: usize, most: usize, n: usize, val
 fn put_decimal(buf: &mut [u8], at: usize, n: usize, value: u64) -> usize
     ensures { Appends (digits_of 10 n value) (at, buf.old) (result, buf.new) }
 {
-    let count = taken(buf, at, n);
-    let mut left = n;
+    let count = n.min(buf.len().saturating_sub(at));
     let mut rest = value;
-    while 0 < left {
-        left -= 1;
-        if left < count {
-            buf[at + left] = digit(rest % 10);
+    for i in (0..n).rev() {
+        if i < count {
+            buf[at + i] = digit(rest % 10);
         }
         rest = rest / 10;
     }
@@ -118,6 +98,7 @@ fn fewest(base: Base, v: u64) -> u8
     ensures { result ≡ unpadded (radix_of base) v }
 {
     let mut n: u8 = 1;
+    // No plainer: a division until nothing is left goes over nothing that a `for` or a chain could name.
     let mut rest = above(base, v);
     while 0 < rest {
         rest = above(base, rest);

@@ -10,7 +10,7 @@ use borrow.Author.Tests.{ltb-true, ltb-false}
 use Rattle.promise.proofs.Tests.{both_left, both_right, every, every-at}
 use Rattle.texts.specs.Names.{names}
 use Rattle.registers.specs.Registers.{registers, place_in}
-use Rattle.texts.specs.Pool.{code, index_in, describes, text_code}
+use Rattle.texts.specs.Pool.{code, index_in, text_code}
 use Rattle.texts.specs.Rules.{system_register}
 use Rattle.records.specs.Bits.{field_of}
 use Rattle.records.specs.Kinds.{mark_of, mark_number, kind_of}
@@ -80,35 +80,18 @@ mark-number (suc (suc (suc (suc m)))) h = absurd (omega arith)
 pub marked-number : (n : ℕ) → n % 4 ≡ mark_number (mark_of (kind_of n))
 marked-number n = sym (mark-number (n % 4) (omega arith)) ∙ ap mark_number (mark-at n (n % 4) refl)
 
-module _ (v w : ℕ) where
-  meets-by : (m : ℕ) → byte_of w 7 % 4 ≡ m → allows_by (get_or marks m mark.Free) (byte_of w 3) (value_in v (row_in w)) ≡ meets v (row_in w)
-  unfolding meets row_in
-  meets-by m e =
-      marked-allows (kind_of (byte_of w 7)) (get_or marks m mark.Free) (get_or marks m mark.Free) (byte_of w 3) (value_in v (row_in w)) (mark-at (byte_of w 7) m e) refl
+module _ (answers v w : ℕ) where
+  pub over : applies answers w ≡ false → false ≡ fails answers v w
+  over h = ap (λ (b : Bool). b && not (meets v (row_in w))) (sym h)
 
-  module _ (answers : ℕ) (kind : ℕ) (is : kind ≡ byte_of w 7) where
-    asks : (m : ℕ) → kind % 4 ≡ m → allows_by (get_or marks m mark.Free) (byte_of w 3) (value_in v (row_in w)) ≡ meets v (row_in w)
-    asks m e = meets-by m (sym (ap (λ (n : ℕ). n % 4) is) ∙ e)
+  module _ (yes : applies answers w ≡ true) {kind : ℕ} {m : Mark} (in_row : kind ≡ byte_of w 7)
+      (is : m ≡ mark_of (kind_of kind)) where
+    asks : (x : Mark) → m ≡ x → allows_by x (byte_of w 3) (value_in v (row_in w)) ≡ meets v (row_in w)
+    unfolding meets row_in
+    asks x h =
+        marked-allows (kind_of (byte_of w 7)) m x (byte_of w 3) (value_in v (row_in w))
+        (is ∙ ap (λ (n : ℕ). mark_of (kind_of n)) in_row) h
 
-    pub over : applies answers w ≡ false → false ≡ fails answers v w
-    over h = ap (λ (b : Bool). b && not (meets v (row_in w))) (sym h)
-
-    module _ (yes : applies answers w ≡ true) where
-      by-mark : (b : Bool) → b ≡ meets v (row_in w) → not b ≡ fails answers v w
-      by-mark b e = ap not e ∙ ap (λ (x : Bool). x && not (meets v (row_in w))) (sym yes)
-
-      pub fails-checked : kind % 4 ≡ 2 → not (eqb (value_in v (row_in w)) 0) ≡ fails answers v w
-      fails-checked e = by-mark (eqb (value_in v (row_in w)) 0) (asks 2 e)
-
-      pub fails-coded : kind % 4 ≡ 1 → not (describes (byte_of w 3) (value_in v (row_in w))) ≡ fails answers v w
-      fails-coded e = by-mark (describes (byte_of w 3) (value_in v (row_in w))) (asks 1 e)
-
-      pub never-fails : (kind % 4 ≡ 2 → ⊥) → (kind % 4 ≡ 1 → ⊥) → false ≡ fails answers v w
-      never-fails p q = by-mark true (by (kind % 4) refl)
-        where
-          by : (m : ℕ) → kind % 4 ≡ m → true ≡ meets v (row_in w)
-          by zero e = asks 0 e
-          by (suc zero) e = absurd (q e)
-          by (suc (suc zero)) e = absurd (p e)
-          by (suc (suc (suc zero))) e = asks 3 e
-          by (suc (suc (suc (suc m)))) e = absurd (omega arith)
+    pub fails-by : (x : Mark) → m ≡ x
+        → not (allows_by x (byte_of w 3) (value_in v (row_in w))) ≡ fails answers v w
+    fails-by x h = ap not (asks x h) ∙ ap (λ (b : Bool). b && not (meets v (row_in w))) (sym yes)

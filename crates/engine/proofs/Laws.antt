@@ -2,7 +2,7 @@
 use mathlib.Core.Path.{◌≡◌, refl, sym, ap, ◌∙◌, subst}
 use mathlib.Core.Bool.{Bool, true, false, cond, ◌&&◌}
 use mathlib.Core.List.{List, [], ◌∷◌, ◌++◌, map}
-use Prim.Native.Nat.{ℕ, zero, suc, ◌+◌, ◌-◌, ◌*◌, ◌/◌, ◌^◌, ◌≤◌, ◌<◌}
+use Prim.Native.Nat.{ℕ, zero, suc, ◌+◌, ◌*◌, ◌/◌, ◌^◌, ◌≤◌, ◌<◌}
 use native.Mathlib.Omega.{arith}
 use native.Mathlib.Nat.{zero-add}
 use native.Mathlib.Numerals.{add-one}
@@ -11,9 +11,11 @@ use lib.ListN.{length, set, length-map}
 use borrow.Author.Tests.{eq-eqb, ne_eqb}
 use Rattle.promise.specs.Member.{member}
 use Rattle.promise.proofs.Tests.{both_left, both_right, from, from_at}
-use Rattle.refusals.specs.Refusals.{carrying, no_refusal}
+use Rattle.std.specs.Prelude.{Err}
+use Rattle.refusals.specs.Refusals.{carrying, checked, no_refusal}
 use Rattle.refusals.specs.declared.Reason.TheVariants.{InvalidEc}
 use Rattle.records.specs.Bits.{field_of}
+use Rattle.records.specs.Kinds.{kind_of}
 use Rattle.records.specs.Rows.{record_of, meets, refusal_of}
 use Rattle.records.specs.Sets.{set_room, records_of}
 use Rattle.records.specs.declared.Record.{Record}
@@ -92,26 +94,28 @@ rows_le answers n (suc k) = by (applies answers (row_word n)) (rows_le answers (
     by true h = omega arith
     by false h = omega arith
 
-module _ (answers n k w : ℕ) (more : 0 < k) (is : w ≡ row_word n) where
-  rows_step : rows_from answers n k ≡ cond (applies answers w) (row_in w ∷ rows_from answers (n + 1) (k - 1)) (rows_from answers (n + 1) (k - 1))
+module _ (answers n w : ℕ) {k m : ℕ} (more : k ≡ suc m) (is : w ≡ row_word n) where
+  rows_step : rows_from answers n k
+      ≡ cond (applies answers w) (row_in w ∷ rows_from answers (n + 1) m) (rows_from answers (n + 1) m)
   unfolding rows_from
-  rows_step = let e : k ≡ suc (k - 1) = omega arith in ap (rows_from answers n) e ∙ rw (add-one n, is) refl
+  rows_step = ap (rows_from answers n) more ∙ rw (add-one n, is) refl
 
-  pub row-there : applies answers w ≡ true → rows_from answers n k ≡ row_in w ∷ rows_from answers (n + 1) (k - 1)
+  pub row-there : applies answers w ≡ true → rows_from answers n k ≡ row_in w ∷ rows_from answers (n + 1) m
   row-there h = rows_step ∙ rw h refl
 
-  pub row-over : applies answers w ≡ false → rows_from answers n k ≡ rows_from answers (n + 1) (k - 1)
+  pub row-over : applies answers w ≡ false → rows_from answers n k ≡ rows_from answers (n + 1) m
   row-over h = rows_step ∙ rw h refl
 
-module _ (answers v indices k w : ℕ) (more : 0 < k) (is : w ≡ row_word (byte_of indices 0)) where
-  failure_step : failure_from answers v indices k ≡ cond (fails answers v w) (refusal_of v (row_in w)) (failure_from answers v (indices / 2 ^ 8) (k - 1))
+module _ (answers v indices w : ℕ) {k m : ℕ} (more : k ≡ suc m) (is : w ≡ row_word (byte_of indices 0)) where
+  failure_step : failure_from answers v indices k
+      ≡ cond (fails answers v w) (refusal_of v (row_in w)) (failure_from answers v (indices / 2 ^ 8) m)
   unfolding failure_from
-  failure_step = let e : k ≡ suc (k - 1) = omega arith in ap (failure_from answers v indices) e ∙ rw is refl
+  failure_step = ap (failure_from answers v indices) more ∙ rw is refl
 
   pub check-fails : fails answers v w ≡ true → failure_from answers v indices k ≡ refusal_of v (row_in w)
   check-fails h = failure_step ∙ rw h refl
 
-  pub check-passes : fails answers v w ≡ false → failure_from answers v indices k ≡ failure_from answers v (indices / 2 ^ 8) (k - 1)
+  pub check-passes : fails answers v w ≡ false → failure_from answers v indices k ≡ failure_from answers v (indices / 2 ^ 8) m
   check-passes h = failure_step ∙ rw h refl
 
 pub checks-done : (answers v indices k : ℕ) → k ≡ 0 → failure_from answers v indices k ≡ no_refusal
@@ -121,19 +125,19 @@ checks-done answers v indices k e = rw e refl
 -- The judgement.
 
 module _ (class iss place : ℕ) (is : place ≡ place_word class) where
-  pub unplaced : place ≡ 0 → carrying InvalidEc class ≡ failure_of class iss
+  pub unplaced : place ≡ 0 → Err (carrying InvalidEc class) ≡ checked (failure_of class iss)
   unfolding failure_of
   unplaced h = rw (eq-eqb (place_word class) 0 (sym is ∙ h)) refl
 
-  pub checked : (place ≡ 0 → ⊥) → (answers indices count : ℕ) → answers ≡ answers_of iss → indices ≡ check_word class → count ≡ checks_in place
+  pub placed : (place ≡ 0 → ⊥) → (answers indices count : ℕ) → answers ≡ answers_of iss → indices ≡ check_word class → count ≡ checks_in place
       → failure_from answers iss indices count ≡ failure_of class iss
   unfolding failure_of
-  checked h answers indices count a i n =
+  placed h answers indices count a i n =
       let b : count ≡ checks_in (place_word class) = n ∙ ap checks_in is in
       rw (ne_eqb (place_word class) 0 (λ e. h (is ∙ e))) (cc)
 
-pub top-fails : (esr : ℕ) → meets esr reserved ≡ false → refusal_of esr reserved ≡ judgement esr
-unfolding judgement
+pub top-fails : (esr : ℕ) → meets esr reserved ≡ false → Err (refusal_of esr reserved) ≡ checked (judgement esr)
+unfolding judgement refusal_of kind_of
 top-fails esr h = rw h refl
 
 pub top-passes : (esr : ℕ) → meets esr reserved ≡ true → failure_of (field_of esr 26 6) (field_of esr 0 25) ≡ judgement esr

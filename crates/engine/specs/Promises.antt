@@ -1,5 +1,6 @@
 -- What each public function promises. A promise takes what comes in, then what comes out.
-use Rattle.std.specs.Prelude.{ℕ, List, map, ◌≡◌}
+use Rattle.std.specs.Prelude.{ℕ, List, map, ◌≡◌, Result}
+use Rattle.refusals.specs.Refusals.{checked}
 use Rattle.refusals.specs.declared.Refusal.{Refusal}
 use Rattle.records.specs.Sets.{records_of}
 use Rattle.records.specs.declared.Record.{Record}
@@ -7,8 +8,8 @@ use Rattle.records.specs.declared.Records.{Records}
 use Rattle.engine.specs.Engine.{judgement, readings}
 use Rattle.engine.specs.Words.{words_of, putting}
 
-abbrev pub Judged : ℕ → Refusal → Type 0
-Judged esr r = r ≡ judgement esr
+abbrev pub Judged : ℕ → Result Unit Refusal → Type 0
+Judged esr r = r ≡ checked (judgement esr)
 
 -- the records of a value, whether it is refused or not
 abbrev pub Walked : ℕ → Records → Type 0

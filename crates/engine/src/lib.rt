@@ -2,14 +2,14 @@
 #![tactic(auto)]
 
 ghost use Rattle.std.specs.Prelude.{◌<◌, T, ◌≡◌};
-ghost use Rattle.engine.specs.Engine.{applies, byte_of, direct, failure_from, failure_of, records_by, row_in, tops_of};
+ghost use Rattle.engine.specs.Engine.{byte_of, direct, failure_from, failure_of, records_by, row_in, tops_of};
 ghost use Rattle.engine.specs.Engine as engine;
 ghost use Rattle.engine.specs.Promises.{Judged, Walked};
 ghost use Rattle.engine_table.specs.Packed.{answers_of};
 ghost use Rattle.records.specs.Bits.{field_of};
-ghost use Rattle.records.specs.Kinds.{kind_of, mark_of};
 ghost use Rattle.records.specs.Rows.{record_of, value_in};
 ghost use Rattle.records.specs.Sets.{records_of};
+ghost use Rattle.refusals.specs.Refusals.{checked};
 ghost use Rattle.tables.specs.Tables.{iss_under};
 ghost use Rattle.texts.specs.Pool as pool;
 
@@ -79,8 +79,7 @@ fn value_in(word: u64, v: u64) -> u64
 fn describes(rule: u8, value: u64) -> bool
     ensures { result ≡ pool.describes rule value }
 {
-    let values = rules::values_of(rule);
-    value < 64 && (values >> value) & 1 == 1
+    lookup::has(rules::values_of(rule), value)
 }
 
 // Whether a row applies and its field is not as it asks.
@@ -92,39 +91,34 @@ fn fails(answers: u64, iss: u64, word: u64) -> bool
         return false;
     }
     let value = value_in(word, iss);
-    let kind = byte(word, 7);
-    if kind % k::MARKS == k::CHECKED {
-        return value != 0;
+    match Mark::of_kind(byte(word, 7)) {
+        Mark::Checked => value != 0,
+        Mark::Coded => !describes(byte(word, 3), value),
+        Mark::Free | Mark::Unchecked => false,
     }
-    if kind % k::MARKS == k::CODED {
-        return !describes(byte(word, 3), value);
-    }
-    false
 }
 
 // What the first row that fails answers, in the order of the checks: the rows' indices are the bytes of a number.
-fn first_failure(answers: u64, iss: u64, indices: u64, count: u8) -> Refusal
-    ensures { result ≡ failure_from answers iss indices count }
+fn first_failure(answers: u64, iss: u64, indices: u64, count: u8) -> Result<(), Refusal>
+    ensures { result ≡ checked (failure_from answers iss indices count) }
 {
     let mut rest = indices;
-    let mut left = count;
-    while 0 < left {
+    for _ in 0..count {
         let word = rows::row_word(byte(rest, 0) as usize);
         if fails(answers, iss, word) {
-            return row_in(word).refusal(iss);
+            return row_in(word).refusal(iss).check();
         }
         rest = rest >> 8;
-        left -= 1;
     }
-    Refusal::NONE
+    Ok(())
 }
 
-fn failure_of(class: u64, iss: u64) -> Refusal
-    ensures { result ≡ failure_of class iss }
+fn failure_of(class: u64, iss: u64) -> Result<(), Refusal>
+    ensures { result ≡ checked (failure_of class iss) }
 {
     let place = places::place_word(class);
     if place == 0 {
-        return Refusal::carrying(Reason::InvalidEc, class);
+        return Err(Refusal::carrying(Reason::InvalidEc, class));
     }
     first_failure(
         answers_of(iss),
@@ -135,28 +129,17 @@ fn failure_of(class: u64, iss: u64) -> Refusal
 }
 
 // Why a value is refused, or that it is not.
-pub fn judge(esr: u64) -> Refusal
+pub fn judge(esr: u64) -> Result<(), Refusal>
     ensures { Judged esr result }
 {
     if !top::RES0.meets(esr) {
-        return top::RES0.refusal(esr);
+        return Err(top::RES0.refusal(esr));
     }
     failure_of(records::field(esr, 26, 6), records::field(esr, 0, 25))
 }
 
-fn mark_in(kind: u8) -> Mark
-    ensures { result ≡ mark_of (kind_of kind) }
-{
-    match kind % k::MARKS {
-        k::FREE => Mark::Free,
-        k::CODED => Mark::Coded,
-        k::CHECKED => Mark::Checked,
-        _ => Mark::Unchecked,
-    }
-}
-
-// A row's record of a value. The text is looked up by `lookup`: a second caller of `slots::text_code` would keep the compiler from putting that into the walk
-// over slots, which costs more.
+// A row's record of a value. The text is looked up by `lookup`: a second caller of `slots::text_code` would keep the
+// compiler from putting that into the walk over slots, which costs more.
 fn record_in(word: u64, v: u64) -> Record
     requires { T (direct word) }
     ensures { result ≡ record_of v (row_in word) }
@@ -169,7 +152,7 @@ fn record_in(word: u64, v: u64) -> Record
         long: byte(word, 4),
         start: byte(word, 5),
         width: byte(word, 6),
-        mark: mark_in(byte(word, 7)),
+        mark: Mark::of_kind(byte(word, 7)),
     }
 }
 
@@ -191,6 +174,7 @@ fn iss_record(esr: u64, rule: u8) -> Record
     iss.get(esr)
 }
 
+// Beside `slots::top_slots`, no plainer as one: five lines each, with records here and pairs of words there.
 // The top records, ISS's under the rule that its layout has for it.
 fn top_records(esr: u64, rule: u8) -> Records
     ensures { result ≡ records_of (tops_of esr rule) }
@@ -206,24 +190,21 @@ fn top_records(esr: u64, rule: u8) -> Records
 }
 
 // The top records, then ISS's own from high bits to low, each written where it stays.
+// Beside the walk of `slots::row_slots`, no plainer as one: what is shared is the head of the loop, and a closure for the
+// rest would change what it captures, of which a proof keeps nothing.
 fn all_records(esr: u64, class: u64, iss: u64) -> Records
     ensures { result ≡ records_of (records_by esr class iss) }
 {
     let place = places::place_word(class);
     let answers = answers_of(iss);
     let mut out = top_records(esr, byte(place, 2));
-    let mut at = byte(place, 0) as usize;
-    let mut left = byte(place, 1);
-    while 0 < left {
+    let first = byte(place, 0) as usize;
+    for at in first..first + byte(place, 1) as usize {
         let word = rows::row_word(at);
         if applies(answers, word) {
-            let item = record_in(word, iss);
-            let next = out.count;
-            out.items[next] = item;
-            out.count = next + 1;
+            out.items[out.count] = record_in(word, iss);
+            out.count += 1;
         }
-        at += 1;
-        left -= 1;
     }
     out
 }

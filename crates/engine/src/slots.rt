@@ -26,7 +26,8 @@ pub(crate) const ISS: u64 = 0x19_0009_0000_0008;
 // How many they are.
 const TOP: usize = 5;
 
-// The code of a rule's text of a value; 0 for none.
+// The code of a rule's text of a value; 0 for none. `lookup::text_code` finds a rule by a match of its own and not in the
+// engine's table, so no plainer as one.
 fn text_code(rule: u8, value: u64) -> u64
     ensures { (result ≡ text_code rule value) × (result < 0x10000) }
 {
@@ -57,9 +58,8 @@ fn slot(word: u64, v: u64) -> [u64; 2]
 pub fn words(item: Record) -> [u64; 2]
     ensures { Words item result }
 {
-    let mark = item.mark;
     let codes = item.name as u64 + item.text as u64 * 0x1_0000 + item.long as u64 * 0x1_0000_0000;
-    let bits = item.start as u64 + item.width as u64 * 0x100 + mark.number() as u64 * 0x1_0000;
+    let bits = item.start as u64 + item.width as u64 * 0x100 + item.mark.number() as u64 * 0x1_0000;
     [item.value, codes + bits * 0x100_0000_0000]
 }
 
@@ -89,17 +89,13 @@ fn row_slots(iss: u64, answers: u64, first: usize, count: u8, slots: &mut [[u64;
     requires { (first < 256) × (5 + length (rows_from answers first count) ≤ length slots.old) }
     ensures { (result ≡ 5 + length (rows_from answers first count)) × (slots.new ≡ sets slots.old 5 (map (slot_of iss) (rows_from answers first count))) }
 {
-    let mut at = first;
-    let mut left = count;
     let mut next = TOP;
-    while 0 < left {
+    for at in first..first + count as usize {
         let word = rows::row_word(at);
         if applies(answers, word) {
             slots[next] = slot(word, iss);
             next += 1;
         }
-        at += 1;
-        left -= 1;
     }
     next
 }
@@ -109,15 +105,11 @@ fn count_rows(answers: u64, first: usize, count: u8) -> usize
     requires { first < 256 }
     ensures { result ≡ length (rows_from answers first count) }
 {
-    let mut at = first;
-    let mut left = count;
     let mut found: usize = 0;
-    while 0 < left {
+    for at in first..first + count as usize {
         if applies(answers, rows::row_word(at)) {
             found += 1;
         }
-        at += 1;
-        left -= 1;
     }
     found
 }
@@ -127,10 +119,7 @@ fn fits(room: usize, answers: u64, first: usize, count: u8) -> bool
     requires { (first < 256) × (length (rows_from answers first count) ≤ 14) }
     ensures { result ≡ leb (5 + length (rows_from answers first count)) room }
 {
-    if Records::MAX <= room {
-        return true;
-    }
-    TOP + count_rows(answers, first, count) <= room
+    Records::MAX <= room || TOP + count_rows(answers, first, count) <= room
 }
 
 // The records of a value, each written once, where the slots have room for all of them; how many they are.

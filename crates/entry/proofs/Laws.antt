@@ -1,5 +1,5 @@
--- Laws of big-endian numbers and of the judgement, which the functions' proofs cite: each says what a definition gives under the tests
--- that the code made.
+-- Laws of big-endian numbers and of the judgement, which the functions' proofs cite: each says what a definition gives
+-- under the tests that the code made.
 use Prim.Native.Nat.{ℕ, ◌+◌, ◌*◌, ◌^◌, ◌≤◌, ◌<◌}
 use mathlib.Core.Bool.{Bool, true, false, cond, not}
 use mathlib.Core.List.{List, []}
@@ -11,12 +11,15 @@ use lib.Arith.{digits_lt}
 use lib.Dec.{ltb, eqb}
 use lib.ListN.{length, get_or, take, drop}
 use lib.Seq.{drop-cons, drop-length, length-take-le}
-use borrow.Author.Tests.{lt-ltb, le-ltb, eq-eqb, ne_eqb, ltb-false, eqb-true}
+use borrow.Author.Tests.{lt-ltb, le-ltb, eq-eqb, ne_eqb, ltb-false, eqb-true, eqb-false}
+use Rattle.std.specs.Prelude.{Result, Ok, Err}
+use Rattle.std.specs.Result.{is_err}
 use Rattle.entry.specs.BigEndian.{bytes_after, big_endian, bytes_at}
-use Rattle.entry.specs.Entries.{length_in, version_in, sequence_in, esr_in, judged, entry_of, body_of}
-use Rattle.refusals.specs.Refusals.{bare, no_refusal, reason_number}
-use Rattle.refusals.specs.declared.Reason.{Reason}
+use Rattle.entry.specs.Entries.{length_in, version_in, numbers_in, judged, sound, entry_of, body_of}
+use Rattle.refusals.proofs.Cases.{check-ok, check-err, check-same, passed-is, refused-is}
+use Rattle.refusals.specs.Refusals.{bare, checked, reason_number}
 use Rattle.refusals.specs.declared.Reason.TheVariants.{None, ShortEntry, BadLength, BadVersion}
+use Rattle.refusals.specs.declared.Refusal.{Refusal}
 
 -- Big-endian numbers.
 
@@ -117,7 +120,7 @@ from-facts s f =
     (sym (one_byte s 2 two) ∙ f.first) f.eleven
 
 module _ (s : List ℕ) (free : reason_number (judged s) ≡ 0) where
-  pub entry-sound : entry_of s ≡ record { esr = esr_in s; refusal = no_refusal; sequence = sequence_in s }
+  pub entry-sound : entry_of s ≡ Ok (numbers_in s)
   unfolding entry_of
   entry-sound = simp (eq-eqb _ _ free)
 
@@ -126,7 +129,7 @@ module _ (s : List ℕ) (free : reason_number (judged s) ≡ 0) where
   body-sound = simp (eq-eqb _ _ free)
 
 module _ (s : List ℕ) (bad : reason_number (judged s) ≡ 0 → ⊥) where
-  pub entry-refused : entry_of s ≡ record { esr = 0; refusal = bare (judged s); sequence = 0 }
+  pub entry-refused : entry_of s ≡ Err (bare (judged s))
   unfolding entry_of
   entry-refused = simp (ne_eqb _ _ bad)
 
@@ -134,10 +137,26 @@ module _ (s : List ℕ) (bad : reason_number (judged s) ≡ 0 → ⊥) where
   unfolding body_of
   body_refused = simp (ne_eqb _ _ bad)
 
--- a refusal's number tells whether there is one
-module _ {f g : Reason} {n : ℕ} (e : f ≡ g) (numbered : n ≡ reason_number f) where
-  pub number-sound : n ≡ 0 → reason_number g ≡ 0
-  number-sound z = sym (ap reason_number e) ∙ sym numbered ∙ z
+err_by : (f : Refusal) (p : Bool) → is_err {T = Unit} (cond p (Ok tt) (Err f)) ≡ not p
+err_by f true = refl
+err_by f false = refl
 
-  pub number-refused : (n ≡ 0 → ⊥) → reason_number g ≡ 0 → ⊥
-  number-refused bad z = bad (numbered ∙ ap reason_number e ∙ z)
+-- what the judgement is made into tells whether there is a refusal, and which
+module _ (s : List ℕ) {r : Result Unit Refusal} (is : r ≡ checked (bare (judged s))) where
+  pub checked-sound : {u : Unit} → r ≡ Ok u → reason_number (judged s) ≡ 0
+  checked-sound e = eqb-true _ 0 (check-ok (bare (judged s)) is e)
+
+  pub checked_refused : {f : Refusal} → r ≡ Err f → entry_of s ≡ Err f
+  checked_refused e =
+      entry-refused s (eqb-false _ 0 (check-err (bare (judged s)) is e))
+      ∙ ap Err (sym (check-same (bare (judged s)) is e))
+
+  module _ {b : Bool} (tested : b ≡ is_err r) where
+    tested_is : b ≡ not (sound s)
+    tested_is = tested ∙ ap is_err is ∙ err_by (bare (judged s)) (sound s)
+
+    pub judged_free : b ≡ false → reason_number (judged s) ≡ 0
+    judged_free e = eqb-true _ 0 (passed-is (bare (judged s)) tested_is e)
+
+    pub judged_bad : b ≡ true → reason_number (judged s) ≡ 0 → ⊥
+    judged_bad e = eqb-false _ 0 (refused-is (bare (judged s)) tested_is e)

@@ -1,7 +1,8 @@
--- What the promises come to: reading and writing undo each other, so that the bytes of a sound entry are those of its numbers, and what
--- follows them changes nothing. A number's bytes are its digits in base 256, one law for any count; a block is cut into the parts that it has.
+-- What the promises come to: reading and writing undo each other, so that the bytes of a sound entry are those of its
+-- numbers, and what follows them changes nothing. A number's bytes are its digits in base 256, one law for any count; a
+-- block is cut into the parts that it has.
 use Prim.Native.Nat.{ℕ, zero, suc, ◌+◌, ◌*◌, ◌/◌, ◌%◌, ◌^◌, ◌≤◌, ◌<◌}
-use mathlib.Core.Bool.{Bool, true, false}
+use mathlib.Core.Bool.{Bool, true, false, true≢false}
 use mathlib.Core.List.{List, [], ◌∷◌, ◌++◌}
 use mathlib.Core.Path.{◌≡◌, refl, sym, ap, ap₂, ◌∙◌}
 use native.Mathlib.Nat.{add-mul, mul_assoc, div-one, div-div-eq-div-mul, mod-one, mod-eq_of_lt, one-le-pow, pow-suc, pow-succ'}
@@ -11,13 +12,16 @@ use lib.Dec.{T, ltb, ltb→lt}
 use lib.ListN.{length, take, drop, length-drop}
 use lib.Pow.{are_bytes}
 use lib.Seq.{drop-drop, length-take-le, take-add}
-use borrow.Author.Tests.{eqb-true, eqb-false}
+use borrow.Author.Tests.{eqb-true, eqb-false, ne_eqb}
+use Rattle.std.specs.Prelude.{Result, Ok, Err}
+use Rattle.std.specs.Result.{is_ok}
 use Rattle.entry.proofs.Laws.{Facts, facts, from-facts, entry-sound, entry-refused, body-sound, body_refused}
 use Rattle.entry.specs.BigEndian.{bytes_after, big_endian, bytes_at, written}
-use Rattle.entry.specs.Entries.{sequence_in, esr_in, judged, sound, entry_of, body_of, body_bytes, entry_bytes}
+use Rattle.entry.specs.Entries.{numbers_in, judged, sound, entry_of, body_of, body_bytes, entry_bytes}
 use Rattle.entry.specs.declared.Entry.{Entry}
 use Rattle.promise.proofs.Tests.{both_left, both_right, both_intro}
-use Rattle.refusals.specs.Refusals.{bare, no_refusal, reason_number, refusal_number}
+use Rattle.refusals.specs.Refusals.{bare, no_refusal, passed, reason_number}
+use Rattle.refusals.specs.declared.Refusal.{Refusal}
 
 -- Numbers and their bytes.
 
@@ -88,65 +92,76 @@ parts offset m n s = take-add m n (drop offset s) ∙ ap (λ (l : List ℕ). tak
 
 -- Entries.
 
--- an entry's refusal is the judgement
-pub refusal_is : (s : List ℕ) → (entry_of s).refusal ≡ bare (judged s)
-refusal_is s = by-test (sound s) refl
-  where
-    by-test : (t : Bool) → sound s ≡ t → (entry_of s).refusal ≡ bare (judged s)
-    by-test true h =
-        let free = eqb-true (reason_number (judged s)) 0 h in
-        ap (λ (e : Entry). e.refusal) (entry-sound s free) ∙ sym (ap bare (from-facts s (facts s free)))
-    by-test false h = ap (λ (e : Entry). e.refusal) (entry-refused s (eqb-false (reason_number (judged s)) 0 h))
+-- what is read tells the judgement: the block's numbers where nothing is refused, and else the refusal
+module _ (s : List ℕ) where
+  refusal_in : Result Entry Refusal → Refusal
+  refusal_in (Ok e) = no_refusal
+  refusal_in (Err f) = f
 
--- on a refusal the numbers are 0 and the body is empty
-pub refused-nothing : (s : List ℕ) → ((entry_of s).refusal ≡ no_refusal → ⊥) → ((entry_of s).sequence ≡ 0) × ((entry_of s).esr ≡ 0) × (body_of s ≡ [])
-refused-nothing s h =
-    let bad : reason_number (judged s) ≡ 0 → ⊥ = λ z. h (refusal_is s ∙ ap bare (from-facts s (facts s z))) in
-    (ap (λ (e : Entry). e.sequence) (entry-refused s bad), ap (λ (e : Entry). e.esr) (entry-refused s bad), body_refused s bad)
+  numbers_of : Result Entry Refusal → Entry
+  numbers_of (Ok e) = e
+  numbers_of (Err f) = numbers_in s
 
-module _ (s : List ℕ) (sound-entry : (entry_of s).refusal ≡ no_refusal) where
-  free : reason_number (judged s) ≡ 0
-  free = ap refusal_number (sym (refusal_is s) ∙ sound-entry)
+  by-sound : {P : Type 0} → (reason_number (judged s) ≡ 0 → P) → ((reason_number (judged s) ≡ 0 → ⊥) → P) → P
+  by-sound {P} go stop = by (sound s) refl
+    where
+      by : (t : Bool) → sound s ≡ t → P
+      by true e = go (eqb-true (reason_number (judged s)) 0 e)
+      by false e = stop (eqb-false (reason_number (judged s)) 0 e)
 
-  all-facts : Facts s
-  all-facts = facts s free
+  module _ {e : Entry} (read : entry_of s ≡ Ok e) where
+    pub read-free : reason_number (judged s) ≡ 0
+    read-free =
+        by-sound (λ free. free) (λ bad. absurd (true≢false (sym (ap is_ok (sym (entry-refused s bad) ∙ read)))))
 
-  the_sequence : (entry_of s).sequence ≡ sequence_in s
-  the_sequence = ap (λ (e : Entry). e.sequence) (entry-sound s free)
+    pub numbers_are : e ≡ numbers_in s
+    unfolding numbers_of
+    numbers_are = ap numbers_of (sym read ∙ entry-sound s read-free)
 
-  the_esr : (entry_of s).esr ≡ esr_in s
-  the_esr = ap (λ (e : Entry). e.esr) (entry-sound s free)
+  module _ {f : Refusal} (refused : entry_of s ≡ Err f) where
+    pub read-bad : reason_number (judged s) ≡ 0 → ⊥
+    read-bad free = true≢false (ap is_ok (sym (entry-sound s free) ∙ refused))
+
+    -- an entry's refusal is the judgement
+    pub refusal_is : f ≡ bare (judged s)
+    unfolding refusal_in
+    refusal_is = ap refusal_in (sym refused ∙ entry-refused s read-bad)
+
+    -- on a refusal, which is one that refuses, there are no numbers, and the body is empty
+    pub refused-nothing : (passed f ≡ false) × (body_of s ≡ [])
+    refused-nothing = (ap passed refusal_is ∙ ne_eqb _ 0 read-bad, body_refused s read-bad)
 
 -- the body's bytes are those of the numbers: version, sequence and ESR, written big-endian again
-pub body_of-numbers : (s : List ℕ) → T (are_bytes s) → (entry_of s).refusal ≡ no_refusal
-    → body_of s ≡ body_bytes (entry_of s).sequence (entry_of s).esr
+pub body_of-numbers : (s : List ℕ) {e : Entry} → T (are_bytes s) → entry_of s ≡ Ok e
+    → body_of s ≡ body_bytes e.sequence e.esr
 body_of-numbers s t e =
-    let f : Facts s = all-facts s e in
-    body-sound s (free s e)
+    let f : Facts s = facts s (read-free s e) in
+    body-sound s (read-free s e)
     ∙ parts 2 1 10 s
     ∙ ap₂ (◌++◌)
     (sym (part-written 2 1 s t (omega (arith, f.long))) ∙ ap (written 1) f.first)
     (parts 3 2 8 s
     ∙ ap₂ (◌++◌)
-    (sym (part-written 3 2 s t (omega (arith, f.long))) ∙ ap (written 2) (sym (the_sequence s e)))
-    (sym (part-written 5 8 s t (omega (arith, f.long))) ∙ ap (written 8) (sym (the_esr s e))))
+    (sym (part-written 3 2 s t (omega (arith, f.long))))
+    (sym (part-written 5 8 s t (omega (arith, f.long)))))
+    ∙ ap (λ (x : Entry). body_bytes x.sequence x.esr) (sym (numbers_are s e))
 
 -- an accepted block's first 13 bytes are its entry, written again from its numbers
-pub entry_of-numbers : (s : List ℕ) → T (are_bytes s) → (entry_of s).refusal ≡ no_refusal
-    → take 13 s ≡ entry_bytes (entry_of s).sequence (entry_of s).esr
+pub entry_of-numbers : (s : List ℕ) {e : Entry} → T (are_bytes s) → entry_of s ≡ Ok e
+    → take 13 s ≡ entry_bytes e.sequence e.esr
 entry_of-numbers s t e =
-    let f : Facts s = all-facts s e in
+    let f : Facts s = facts s (read-free s e) in
     parts 0 2 11 s
     ∙ ap₂ (◌++◌)
     (sym (part-written 0 2 s t (omega (arith, f.long))) ∙ ap (written 2) f.eleven)
-    (sym (body-sound s (free s e)) ∙ body_of-numbers s t e)
+    (sym (body-sound s (read-free s e)) ∙ body_of-numbers s t e)
 
 -- every sequence and every ESR has an entry, and it is read whatever follows: a reader that refuses all would not do
 pub written-is-read : (sequence esr : ℕ) (rest : List ℕ) → sequence < 256 ^ 2 → esr < 256 ^ 8
-    → entry_of (entry_bytes sequence esr ++ rest) ≡ record { esr = esr; refusal = no_refusal; sequence = sequence }
+    → entry_of (entry_bytes sequence esr ++ rest) ≡ Ok (record { esr = esr; sequence = sequence })
 unfolding bytes_after written
 written-is-read sequence esr rest hs he =
     let s : List ℕ = entry_bytes sequence esr ++ rest in
     let f : Facts s = record { long = omega arith; eleven = refl; first = refl } in
     entry-sound s (ap reason_number (from-facts s f))
-    ∙ ap₂ (λ (q v : ℕ). record { esr = v; refusal = no_refusal; sequence = q }) (read-written 2 sequence hs) (read-written 8 esr he)
+    ∙ ap₂ (λ (q v : ℕ). Ok (record { esr = v; sequence = q })) (read-written 2 sequence hs) (read-written 8 esr he)

@@ -1,11 +1,12 @@
 -- 01's flash entry: two bytes of length, the bytes that follow; version 1; two of sequence; eight of ESR.
-use Rattle.std.specs.Prelude.{ℕ, ◌+◌, Bool, cond, not, List, [], ◌++◌, eqb, ltb, length}
+use Rattle.std.specs.Prelude.{ℕ, ◌+◌, Bool, cond, not, List, [], ◌++◌, eqb, ltb, length, Result, Ok, Err}
 use Rattle.std.specs.Borrow.{Bor}
 use Rattle.entry.specs.BigEndian.{big_endian, bytes_at, written}
 use Rattle.entry.specs.declared.Entry.{Entry}
-use Rattle.refusals.specs.Refusals.{bare, no_refusal, passed}
+use Rattle.refusals.specs.Refusals.{bare, passed}
 use Rattle.refusals.specs.declared.Reason.{Reason}
 use Rattle.refusals.specs.declared.Reason.TheVariants.{None, ShortEntry, BadLength, BadVersion}
+use Rattle.refusals.specs.declared.Refusal.{Refusal}
 
 -- the numbers of a block, each by its offset and how many bytes it has
 abbrev pub length_in : List ℕ → ℕ
@@ -33,12 +34,12 @@ judged s =
 abbrev pub sound : List ℕ → Bool
 sound s = passed (bare (judged s))
 
--- the numbers of a sound entry; on a refusal each is 0
-unfoldable pub entry_of : List ℕ → Entry
-entry_of s =
-    cond (sound s)
-    (record { esr = esr_in s; refusal = no_refusal; sequence = sequence_in s })
-    (record { esr = 0; refusal = bare (judged s); sequence = 0 })
+-- the numbers that stand in a block; those of its entry where it is sound, and its refusal where it is not
+abbrev pub numbers_in : List ℕ → Entry
+numbers_in s = record { esr = esr_in s; sequence = sequence_in s }
+
+unfoldable pub entry_of : List ℕ → Result Entry Refusal
+entry_of s = cond (sound s) (Ok (numbers_in s)) (Err (bare (judged s)))
 
 -- the bytes after the length, 11 whatever follows them; none on a refusal
 unfoldable pub body_of : List ℕ → List ℕ

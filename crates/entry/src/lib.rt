@@ -5,6 +5,7 @@ ghost use Rattle.std.specs.Prelude.{◌<◌, ◌^◌, ◌≤◌, length, ◌≡�
 ghost use Rattle.entry.specs.BigEndian.{big_endian};
 ghost use Rattle.entry.specs.Entries.{judged, lent};
 ghost use Rattle.entry.specs.Promises.{Body, Read};
+ghost use Rattle.refusals.specs.Refusals.{bare, checked};
 
 use refusals::{Reason, Refusal};
 
@@ -13,11 +14,10 @@ const LENGTH: u64 = 11;
 
 const VERSION: u8 = 1;
 
-// The numbers, or the refusal and numbers of 0. The ESR is not judged here.
+// The numbers of a sound entry. The ESR is not judged here.
 #[derive(Clone, Copy)]
 pub struct Entry {
     pub esr: u64,
-    pub refusal: Refusal,
     pub sequence: u16,
 }
 
@@ -27,63 +27,57 @@ fn big_endian(s: &[u8]) -> u64
     ensures { (result ≡ big_endian s.now) × (result < 256 ^ length s.now) }
 {
     let mut number: u64 = 0;
-    let mut i = 0;
-    while i < s.len() {
-        number = number * 256 + s[i] as u64;
-        i += 1;
+    for byte in s {
+        number = number * 256 + *byte as u64;
     }
     number
 }
 
+// By a reason that carries nothing.
+fn refused(reason: Reason) -> Result<(), Refusal>
+    ensures { result ≡ checked (bare reason) }
+{
+    Refusal::carrying(reason, 0).check()
+}
+
 // One judgement for the numbers and for the body, in 01's order.
-fn judge(block: &[u8]) -> Reason
-    ensures { result ≡ judged block.now }
+fn judge(block: &[u8]) -> Result<(), Refusal>
+    ensures { result ≡ checked (bare (judged block.now)) }
 {
     if block.len() < 2 {
-        return Reason::ShortEntry;
+        return refused(Reason::ShortEntry);
     }
     let length = big_endian(&block[0..2]);
     if length == 0 {
-        return Reason::BadLength;
+        return refused(Reason::BadLength);
     }
     if (block.len() as u64) < 2 + length {
-        return Reason::ShortEntry;
+        return refused(Reason::ShortEntry);
     }
     if block[2] != VERSION {
-        return Reason::BadVersion;
+        return refused(Reason::BadVersion);
     }
     if length != LENGTH {
-        return Reason::BadLength;
+        return refused(Reason::BadLength);
     }
-    Reason::None
+    Ok(())
 }
 
-pub fn read_entry(block: &[u8]) -> Entry
+pub fn read_entry(block: &[u8]) -> Result<Entry, Refusal>
     ensures { Read block.now result }
 {
-    let reason = judge(block);
-    if reason.number() != 0 {
-        return Entry {
-            esr: 0,
-            refusal: Refusal::carrying(reason, 0),
-            sequence: 0,
-        };
-    }
-    let sequence = big_endian(&block[3..5]);
+    judge(block)?;
+    let sequence = big_endian(&block[3..5]) as u16;
     let esr = big_endian(&block[5..13]);
-    Entry {
-        esr,
-        refusal: Refusal::NONE,
-        sequence: sequence as u16,
-    }
+    Ok(Entry { esr, sequence })
 }
 
-// A part of the caller's own block: 11 bytes whatever follows them, and none on a refusal.
+// A part of the caller's own block: 11 bytes whatever follows them, and none on a refusal. Document 01 names this form, a
+// part that is empty on a refusal, so that it is no Option.
 pub fn entry_body(block: &[u8]) -> &[u8]
     ensures { Body (lent block.entry) (lent result) }
 {
-    let reason = judge(block);
-    if reason.number() != 0 {
+    if judge(block).is_err() {
         return &block[0..0];
     }
     &block[2..13]

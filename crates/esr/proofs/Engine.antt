@@ -10,12 +10,14 @@ use lib.ListN.{length}
 use borrow.Author.Tests.{eq-eqb, ne_eqb, eqb-true, eqb-false}
 use Rattle.promise.specs.Member.{member}
 use Rattle.promise.proofs.Tests.{both_left, both_right, is_true}
+use Rattle.std.specs.Prelude.{Result, Ok, Err}
 use Rattle.refusals.specs.Refusals.{refusal_number, passed, carrying, no_refusal}
 use Rattle.refusals.specs.declared.Reason.TheVariants.{InvalidEc}
 use Rattle.refusals.specs.declared.Refusal.{Refusal}
 use Rattle.records.specs.Bits.{field_of}
 use Rattle.records.specs.Kinds.{kind_of}
 use Rattle.records.specs.Rows.{record_of, meets, refusal_of, row_kind}
+use Rattle.records.specs.Sets.{records_of}
 use Rattle.records.specs.declared.Record.{Record}
 use Rattle.records.specs.declared.Records.{Records}
 use Rattle.records.specs.declared.Row.{Row}
@@ -29,7 +31,7 @@ use Rattle.engine.specs.Engine.{row_in, applies, fails, failure_from, checks_in,
 use Rattle.engine.specs.Promises.{Judged, Walked}
 use Rattle.engine.proofs.Rows.{right_line, right, own, row_back, applies_as, Stands, table_for, Found, Looked, missing, found, looked, rows-found, are_bytes, Placed, place-back, rows_at}
 use Rattle.esr.specs.Decode.{first_failure, refused, accepted, failure_for, records_for, table_answer, class_of, iss_of, class_answer, answer_of}
-use Rattle.esr.specs.Engine.{engine_answer}
+use Rattle.esr.specs.Engine.{engine_answer, judged_answer}
 use Rattle.esr.specs.Promises.{Decoded}
 use Rattle.esr.specs.declared.Answer.{Answer}
 
@@ -248,12 +250,20 @@ module _ (esr : ℕ) where
   pub answer-accepts : number ≡ 0 → accepted (readings esr) ≡ answer_of esr
   answer-accepts = (judged-by _ refl).1
 
--- #113: "prove that both give the same records and refusals on every value, once over all layouts". Whatever the engine's two functions give, and the decoder in
--- the Rust's shape, by their promises: the decoder answers with the engine's refusal, and where there is none, with its records.
-pub same-answers : (esr : ℕ) (f : Refusal) (s : Records) (a : Answer) → Judged esr f → Walked esr s → Decoded esr a
-    → a ≡ cond (passed f) (record { refusal = no_refusal; records = s }) (refused f)
-unfolding engine_answer accepted
-same-answers esr f s a judged walked decoded =
+judged : (p : Bool) (f : Refusal) (l : List Record)
+    → cond p (accepted l) (refused f) ≡ judged_answer (cond p (Ok tt) (Err f)) (records_of l)
+unfolding accepted judged_answer
+judged true f l = refl
+judged false f l = refl
+
+-- #113: "prove that both give the same records and refusals on every value, once over all layouts". Whatever the engine's
+-- two functions give, and the decoder in the Rust's shape, by their promises: the decoder answers with the engine's
+-- refusal, and where there is none, with its records.
+pub same-answers : (esr : ℕ) (r : Result Unit Refusal) (s : Records) (a : Answer) → Judged esr r → Walked esr s
+    → Decoded esr a → a ≡ judged_answer r s
+unfolding engine_answer
+same-answers esr r s a is walked decoded =
     decoded
     ∙ sym (engines_agree esr)
-    ∙ ap₂ (λ (g : Refusal) (t : Records). cond (passed g) (record { refusal = no_refusal; records = t }) (refused g)) (sym judged) (sym walked)
+    ∙ judged (passed (judgement esr)) (judgement esr) (readings esr)
+    ∙ ap₂ judged_answer (sym is) (sym walked)

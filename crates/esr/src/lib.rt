@@ -1,5 +1,5 @@
-// The decoder, by both engines: `decode` walks the one table; `decode_by_layouts` has the Rust's shape, with the class table, the top rows, the checks in order, and the walk from
-// high bits to low.
+// The decoder, by both engines: `decode` walks the one table; `decode_by_layouts` has the Rust's shape, with the class
+// table, the top rows, the checks in order, and the walk from high bits to low.
 #![tactic(auto)]
 
 ghost use Rattle.engine.specs.Engine.{readings};
@@ -8,6 +8,7 @@ ghost use Rattle.esr.specs.Promises.{Decoded, LayoutNumber};
 ghost use Rattle.layouts.specs.Layouts.{table_of};
 ghost use Rattle.records.specs.Bits.{field_of};
 ghost use Rattle.records.specs.Sets.{records_of};
+ghost use Rattle.refusals.specs.Refusals.{checked};
 ghost use Rattle.std.specs.Prelude.{◌≡◌};
 
 use engine::top;
@@ -16,17 +17,17 @@ use records::{Records, Row, kinds as k};
 use refusals::{Reason, Refusal};
 use texts::names as n;
 
-// A refusal and no records, or the records.
+// A refusal and no records, or the records. Kept beside each other: document 01 names this form.
 #[derive(Clone, Copy)]
 pub struct Answer {
     pub refusal: Refusal,
     pub records: Records,
 }
 
-// The mark of a class without a layout.
+// The mark of a class without a layout. Kept as a number: document 01 names this form.
 pub const EMPTY: u8 = 255;
 
-// The number of each class's layout, by class.
+// The number of each class's layout, by class. Document 01 names this form.
 const CLASS: [u8; 64] = [
     // 0x00
     numbers::RES0,
@@ -124,20 +125,18 @@ fn refuse(refusal: Refusal) -> Answer
 
 // What the first row that refuses its field answers, in the order of the checks. A layout is fetched by each function that walks it: one
 // that is handed on by value is copied, which costs more.
-fn first_failure(number: u8, iss: u64) -> Refusal
-    ensures { result ≡ failure_for (table_of number) iss }
+fn first_failure(number: u8, iss: u64) -> Result<(), Refusal>
+    ensures { result ≡ checked (failure_for (table_of number) iss) }
 {
     let layout = layouts::layout_of(number, iss);
-    let mut i: usize = 0;
-    while i < layout.checked as usize {
+    for i in 0..layout.checked as usize {
         let index = layout.checks[i] as usize;
         let row = layout.rows[index];
         if !row.meets(iss) {
-            return row.refusal(iss);
+            return row.refusal(iss).check();
         }
-        i += 1;
     }
-    Refusal::NONE
+    Ok(())
 }
 
 // The top records, then ISS's own from high bits to low, each written where it stays. The layout says how ISS's text is found.
@@ -160,14 +159,10 @@ fn all_records(esr: u64, number: u8, iss: u64) -> Records
     out.items[3] = top::IL.get(esr);
     out.items[4] = whole.get(esr);
     out.count = 5;
-    let mut i: usize = 0;
-    while i < layout.count as usize {
-        let row = layout.rows[i];
-        let item = row.get(iss);
-        let at = out.count;
-        out.items[at] = item;
-        out.count = at + 1;
-        i += 1;
+    for i in 0..layout.count as usize {
+        let item = layout.rows[i].get(iss);
+        out.items[out.count] = item;
+        out.count += 1;
     }
     out
 }
@@ -176,13 +171,12 @@ fn read(esr: u64, number: u8) -> Answer
     ensures { result ≡ table_answer (table_of number) esr (field_of esr 0 25) }
 {
     let iss = records::field(esr, 0, 25);
-    let refusal = first_failure(number, iss);
-    if refusal.number() != 0 {
-        return refuse(refusal);
-    }
-    Answer {
-        refusal: Refusal::NONE,
-        records: all_records(esr, number, iss),
+    match first_failure(number, iss) {
+        Ok(()) => Answer {
+            refusal: Refusal::NONE,
+            records: all_records(esr, number, iss),
+        },
+        Err(refusal) => refuse(refusal),
     }
 }
 
@@ -215,9 +209,8 @@ fn accept(esr: u64) -> Answer
 pub fn decode(esr: u64) -> Answer
     ensures { Decoded esr result }
 {
-    let refusal = engine::judge(esr);
-    if refusal.number() != 0 {
-        return refuse(refusal);
+    match engine::judge(esr) {
+        Ok(()) => accept(esr),
+        Err(refusal) => refuse(refusal),
     }
-    accept(esr)
 }

@@ -16,16 +16,23 @@ use strict::{Profile, profile_asked};
 // The longest sheet: bytes past its length are not read.
 const SHEET: usize = 65537;
 
-// What the options ask for.
+// The sheets that the texts come from, the workshop's asked first.
 #[derive(Clone, Copy)]
-struct Asked {
-    rest: Rest,
-    profile: Profile,
-    sheets: bool,
+struct Sheets<'a> {
+    workshop: &'a [u8],
+    standard: &'a [u8],
 }
 
-// Where a run stands between two parts of its input: the line that is being read, how many lines have ended, whether more than one line is known of, so that lines
-// are named, and whether the first one has ended and waits to be answered.
+// What the options ask for. Without sheets the texts are the project's own.
+#[derive(Clone, Copy)]
+struct Asked<'a> {
+    rest: Rest,
+    profile: Profile,
+    sheets: Option<Sheets<'a>>,
+}
+
+// Where a run stands between two parts of its input: the line that is being read, how many lines have ended, whether
+// more than one line is known of, so that lines are named, and whether the first one has ended and waits to be answered.
 #[derive(Clone, Copy)]
 struct Standing {
     line: NumberState,
@@ -34,183 +41,112 @@ struct Standing {
     held: bool,
 }
 
-fn put_reply(
-    asked: Asked,
-    workshop: &[u8],
-    standard: &[u8],
-    buf: &mut [u8],
-    at: usize,
-    line: u64,
-    number: Number,
-) -> usize {
-    let profile = asked.profile;
-    if asked.sheets {
-        return put_listing_with_reply(buf, at, profile, line, number, workshop, standard);
+impl Standing {
+    // Whether a line is still to be answered: one that is held, or a last one without a line feed that has a byte.
+    fn is_left(self) -> bool {
+        self.held || self.line.is_open()
     }
-    put_listing_reply(buf, at, profile, line, number)
-}
 
-// Puts the reply to a line after what is held. Where the buffer ends within it, what is held is written, and the reply is put at the front.
-fn reply(
-    asked: Asked,
-    workshop: &[u8],
-    standard: &[u8],
-    buf: &mut [u8],
-    at: usize,
-    line: u64,
-    state: NumberState,
-) -> usize {
-    let rest = asked.rest;
-    let number = line_number(state, rest);
-    let end = put_reply(asked, workshop, standard, buf, at, line, number);
-    if end <= buf.len() {
-        return end;
-    }
-    streams::flush(buf, at);
-    put_reply(asked, workshop, standard, buf, 0, line, number)
-}
-
-// Answers the line that is held, now that more follows it.
-fn answer_held(
-    asked: Asked,
-    workshop: &[u8],
-    standard: &[u8],
-    from: Standing,
-    buf: &mut [u8],
-) -> Standing {
-    if !from.held {
-        return from;
-    }
-    let line = from.line;
-    let at = reply(asked, workshop, standard, buf, 0, from.count, line);
-    streams::flush(buf, at);
-    Standing {
-        line: NumberState::start(),
-        count: from.count,
-        named: true,
-        held: false,
+    // The number of the last line among the lines; 0 where it is the only one, which has no name.
+    fn last_number(self) -> u64 {
+        if self.named {
+            return self.count.wrapping_add(1);
+        }
+        0
     }
 }
 
-// Whether more than one line is known of, as far as this part of the input tells.
-fn is_followed(named: bool, part: &[u8], next: usize) -> bool {
-    if named {
-        return true;
+impl Asked<'_> {
+    fn put_reply(self, buf: &mut [u8], at: usize, line: u64, number: Number) -> usize {
+        match self.sheets {
+            Some(Sheets { workshop, standard }) => {
+                put_listing_with_reply(buf, at, self.profile, line, number, workshop, standard)
+            }
+            None => put_listing_reply(buf, at, self.profile, line, number),
+        }
     }
-    next < part.len()
-}
 
-// Answers the lines that end in a part of the input, and hands on where the run stands.
-#[tactic(auto, using(line_reader::proofs::Laws::part_moved))]
-fn answer_part(
-    asked: Asked,
-    workshop: &[u8],
-    standard: &[u8],
-    from: Standing,
-    part: &[u8],
-    buf: &mut [u8],
-) -> Standing {
-    let mut line = from.line;
-    let mut count = from.count;
-    let mut named = from.named;
-    let mut held = false;
-    let mut next: usize = 0;
-    let mut at: usize = 0;
-    while next < part.len() {
-        let taken = line_reader::take_line(line, part, next);
-        line = taken.state;
-        next = taken.next;
-        if taken.ended {
-            count = std::num::wrapping_add_u64(count, 1);
-            named = is_followed(named, part, next);
-            held = !named;
-            if named {
-                at = reply(asked, workshop, standard, buf, at, count, line);
-                line = NumberState::start();
+    // Puts the reply to a line after what is held. Where the buffer ends within it, what is held is written, and the
+    // reply is put at the front.
+    fn reply(self, buf: &mut [u8], at: usize, line: u64, state: NumberState) -> usize {
+        let number = line_number(state, self.rest);
+        let end = self.put_reply(buf, at, line, number);
+        if end <= buf.len() {
+            return end;
+        }
+        streams::flush(buf, at);
+        self.put_reply(buf, 0, line, number)
+    }
+
+    // Answers the line that is held, now that more follows it.
+    fn answer_held(self, from: Standing, buf: &mut [u8]) -> Standing {
+        if !from.held {
+            return from;
+        }
+        let at = self.reply(buf, 0, from.count, from.line);
+        streams::flush(buf, at);
+        Standing {
+            line: NumberState::start(),
+            named: true,
+            held: false,
+            ..from
+        }
+    }
+
+    // Answers the lines that end in a part of the input, and hands on where the run stands.
+    // Kept as a `while` (no plainer): each turn takes a line, which the data ends.
+    #[tactic(auto, using(line_reader::proofs::Laws::part_moved))]
+    fn answer_part(self, from: Standing, part: &[u8], buf: &mut [u8]) -> Standing {
+        let mut standing = Standing {
+            held: false,
+            ..from
+        };
+        let mut next: usize = 0;
+        let mut at: usize = 0;
+        while next < part.len() {
+            let taken = line_reader::take_line(standing.line, part, next);
+            standing.line = taken.state;
+            next = taken.next;
+            if taken.ended {
+                standing.count = standing.count.wrapping_add(1);
+                standing.named = standing.named || next < part.len();
+                standing.held = !standing.named;
+                if standing.named {
+                    at = self.reply(buf, at, standing.count, standing.line);
+                    standing.line = NumberState::start();
+                }
             }
         }
+        streams::flush(buf, at);
+        standing
     }
-    streams::flush(buf, at);
-    Standing {
-        line,
-        count,
-        named,
-        held,
-    }
-}
 
-// Answers what is held, and the lines that end in the part of the input that follows it.
-fn answer_more(
-    asked: Asked,
-    workshop: &[u8],
-    standard: &[u8],
-    from: Standing,
-    part: &[u8],
-    buf: &mut [u8],
-) -> Standing {
-    let standing = answer_held(asked, workshop, standard, from, buf);
-    answer_part(asked, workshop, standard, standing, part, buf)
-}
-
-// Whether a line is still to be answered: one that is held, or a last one without a line feed that has a byte.
-fn is_left(standing: Standing) -> bool {
-    if standing.held {
-        return true;
-    }
-    let line = standing.line;
-    line.is_open()
-}
-
-// The number of the last line among the lines; 0 where it is the only one, which has no name.
-fn last_number(standing: Standing) -> u64 {
-    if standing.named {
-        return std::num::wrapping_add_u64(standing.count, 1);
-    }
-    0
-}
-
-fn answer_last(asked: Asked, workshop: &[u8], standard: &[u8], standing: Standing, buf: &mut [u8]) {
-    if !is_left(standing) {
-        return;
-    }
-    let line = standing.line;
-    let end = reply(
-        asked,
-        workshop,
-        standard,
-        buf,
-        0,
-        last_number(standing),
-        line,
-    );
-    streams::flush(buf, end);
-}
-
-// A proved loop has to end, and nothing says that an input does: it counts down from a number of reads that no run uses up.
-fn answer_all(
-    asked: Asked,
-    workshop: &[u8],
-    standard: &[u8],
-    mut stdin: Stdin,
-    part: &mut [u8],
-    buf: &mut [u8],
-) {
-    let mut standing = Standing {
-        line: NumberState::start(),
-        count: 0,
-        named: false,
-        held: false,
-    };
-    let mut turns = u64::MAX;
-    while 0 < turns {
-        let got = streams::got(stdin.read(part).ok());
-        let n = streams::count_read(got, part);
-        if n == 0 {
-            answer_last(asked, workshop, standard, standing, buf);
+    fn answer_last(self, standing: Standing, buf: &mut [u8]) {
+        if !standing.is_left() {
             return;
         }
-        standing = answer_more(asked, workshop, standard, standing, &part[0..n], buf);
-        turns -= 1;
+        let end = self.reply(buf, 0, standing.last_number(), standing.line);
+        streams::flush(buf, end);
+    }
+
+    // A proved loop has to end, and nothing says that an input does: it makes more reads than any run uses up.
+    fn answer_all(self, mut stdin: Stdin, part: &mut [u8], buf: &mut [u8]) {
+        let mut standing = Standing {
+            line: NumberState::start(),
+            count: 0,
+            named: false,
+            held: false,
+        };
+        'reads: for _ in 0..u64::MAX {
+            let got = streams::got(stdin.read(part).ok());
+            let n = streams::count_read(got, part);
+            if n == 0 {
+                self.answer_last(standing, buf);
+                return;
+            }
+            let held = self.answer_held(standing, buf);
+            standing = self.answer_part(held, &part[0..n], buf);
+        }
     }
 }
 
@@ -224,11 +160,9 @@ fn sheet_room() -> [u8; SHEET]
 fn write_standard(standard: &mut [u8]) -> usize
     ensures { result ≤ length standard.new }
 {
-    let written = sheets::standard_sheet(standard);
-    if standard.len() < written.bytes {
-        return 0;
-    }
-    written.bytes
+    sheets::standard_sheet(standard)
+        .unwrap_or(0)
+        .min(standard.len())
 }
 
 fn main(rt: HostRuntime) {
@@ -242,20 +176,17 @@ fn main(rt: HostRuntime) {
     let k = streams::copied(rt.arg(2, &mut option).ok(), &option);
     let profile = profile_asked(&option[0..k]);
     let m = streams::copied(rt.arg(3, &mut option).ok(), &option);
-    let sheets = words::is_word(&option[0..m], b"--sheet");
+    let with_sheets = words::is_word(&option[0..m], b"--sheet");
     let w = streams::copied(rt.arg(4, &mut workshop).ok(), &workshop);
     let s = write_standard(&mut standard);
+    let sheets = Sheets {
+        workshop: &workshop[0..w],
+        standard: &standard[0..s],
+    };
     let asked = Asked {
         rest,
         profile,
-        sheets,
+        sheets: if with_sheets { Some(sheets) } else { None },
     };
-    answer_all(
-        asked,
-        &workshop[0..w],
-        &standard[0..s],
-        rt.stdin(),
-        &mut part,
-        &mut buf,
-    );
+    asked.answer_all(rt.stdin(), &mut part, &mut buf);
 }

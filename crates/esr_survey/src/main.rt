@@ -5,7 +5,7 @@
 // option, `--strict` or `--nested`, values are read strictly (#110).
 #![tactic(auto)]
 
-ghost use Rattle.std.specs.Prelude.{◌≤◌, length, ◌≡◌};
+ghost use Rattle.std.specs.Prelude.{length, ◌≡◌};
 
 use number_lines::Lines;
 use std::io::{Read, Stdin};
@@ -30,24 +30,15 @@ fn run_places() -> [u64; RUN]
     [0; RUN]
 }
 
-// How many numbers of the run are taken.
-fn least(a: usize, b: usize) -> usize
-    ensures { result ≤ b }
-{
-    if a < b {
-        return a;
-    }
-    b
-}
-
 // Counts the lines of a run, and adds that to the totals.
 fn count_run(asked: Asked, lines: Lines, run: &[u64], totals: &mut [u64]) {
-    let n = least(lines.numbers, run.len());
+    let n = lines.numbers.min(run.len());
     let mut counts = [0u32; 64];
-    let profile = asked.profile;
-    let tally = survey::survey(profile, &run[0..n], &mut counts);
-    let refused = tally.refused;
-    if !survey_reply::add_run(totals, &counts, refused, lines.none as u64) {
+    // Never refused: the table has 64 places, and a run has 4,096.
+    let Ok(tally) = survey::survey(asked.profile, &run[..n], &mut counts) else {
+        return;
+    };
+    if !survey_reply::add_run(totals, &counts, tally.refused, lines.none as u64) {
         io::write_all(STDERR, b"esr: a count does not fit 64 bits\n");
     }
 }
@@ -69,14 +60,14 @@ fn next_run(asked: Asked, lines: Lines, run: &[u64], totals: &mut [u64]) -> Line
 fn take_part(asked: Asked, from: Lines, part: &[u8], run: &mut [u64], totals: &mut [u64]) -> Lines {
     let mut lines = from;
     let mut next: usize = 0;
+    // No plainer: each turn goes on where the last one stopped to take lines.
     while next < part.len() {
         if lines.is_full(run.len()) {
             return lines;
         }
         let taken = number_lines::take_lines(lines, part, next, run);
-        let reached = taken.lines;
         next = taken.next;
-        lines = next_run(asked, reached, run, totals);
+        lines = next_run(asked, taken.lines, run, totals);
     }
     lines
 }
@@ -87,7 +78,7 @@ fn count_last(asked: Asked, lines: Lines, run: &mut [u64], totals: &mut [u64]) {
     count_run(asked, last, run, totals);
 }
 
-// A proved loop has to end, and nothing says that an input does: it counts down from a number of reads that no run uses up.
+// A proved loop has to end, and nothing says that an input does: no run uses up this number of reads.
 fn count_values(
     asked: Asked,
     mut stdin: Stdin,
@@ -96,8 +87,7 @@ fn count_values(
     totals: &mut [u64],
 ) {
     let mut lines = Lines::start();
-    let mut turns = u64::MAX;
-    while 0 < turns {
+    'reads: for _ in 0..u64::MAX {
         // A run that is full here is the only one: nothing more is read.
         if lines.is_full(run.len()) {
             count_run(asked, lines, run, totals);
@@ -109,8 +99,7 @@ fn count_values(
             count_last(asked, lines, run, totals);
             return;
         }
-        lines = take_part(asked, lines, &part[0..n], run, totals);
-        turns -= 1;
+        lines = take_part(asked, lines, &part[..n], run, totals);
     }
 }
 

@@ -2,8 +2,6 @@
 // here lines are read and the survey is written, through fixed buffers. A line that cannot be added is told, with its number, and the others are added all the same.
 #![tactic(auto)]
 
-ghost use Rattle.std.specs.Prelude.{◌≤◌};
-
 use std::io::{Read, Stdin};
 use streams::STDERR;
 use survey_reply::PLACES;
@@ -22,15 +20,6 @@ struct Standing {
     left: u64,
 }
 
-fn least(a: usize, b: usize) -> usize
-    ensures { result ≤ b }
-{
-    if a < b {
-        return a;
-    }
-    b
-}
-
 // Tells of a line that cannot be added, if any more are told, and how many are after it.
 fn tell(left: u64, line: u64, what: &[u8]) -> u64 {
     if left == 0 {
@@ -40,7 +29,7 @@ fn tell(left: u64, line: u64, what: &[u8]) -> u64 {
     let mut at = buffer::put_bytes(&mut text, 0, b"esr: line ");
     at = digits::put_number(&mut text, at, digits::Base::Decimal, line);
     at = buffer::put_bytes(&mut text, at, what);
-    io::write_all(STDERR, &text[0..least(at, 4096)]);
+    io::write_all(STDERR, &text[..at.min(text.len())]);
     if left == 1 {
         io::write_all(STDERR, b"esr: no further line is told\n");
     }
@@ -52,10 +41,9 @@ fn add_line(line: &[u8], held: usize, number: u64, left: u64, totals: &mut [u64]
     if line.len() < held {
         return tell(left, number, b" is none of a survey's\n");
     }
-    let count = survey_reply::read_count(&line[0..held]);
-    if !count.said {
+    let Some(count) = survey_reply::read_count(&line[..held]) else {
         return tell(left, number, b" is none of a survey's\n");
-    }
+    };
     if !survey_reply::add_count(totals, count.place, count.count) {
         return tell(
             left,
@@ -72,13 +60,14 @@ fn add_part(from: Standing, part: &[u8], line: &mut [u8], totals: &mut [u64]) ->
     let mut lines = from.lines;
     let mut left = from.left;
     let mut next: usize = 0;
+    // No plainer: each turn goes on behind the line feed that the last one found.
     while next < part.len() {
         let end = line_reader::line_end(part, next);
         held = buffer::put_bytes(line, held, &part[next..end]);
         if part.len() <= end {
             return Standing { held, lines, left };
         }
-        lines = std::num::wrapping_add_u64(lines, 1);
+        lines = lines.wrapping_add(1);
         left = add_line(line, held, lines, left, totals);
         held = 0;
         next = end + 1;
@@ -89,28 +78,26 @@ fn add_part(from: Standing, part: &[u8], line: &mut [u8], totals: &mut [u64]) ->
 // A last line without a line feed is one if it has a character.
 fn add_last(standing: Standing, line: &[u8], totals: &mut [u64]) {
     if 0 < standing.held {
-        let number = std::num::wrapping_add_u64(standing.lines, 1);
+        let number = standing.lines.wrapping_add(1);
         add_line(line, standing.held, number, standing.left, totals);
     }
 }
 
-// A proved loop has to end, and nothing says that an input does: it counts down from a number of reads that no run uses up.
+// A proved loop has to end, and nothing says that an input does: no run uses up this number of reads.
 fn add_surveys(mut stdin: Stdin, part: &mut [u8], line: &mut [u8], totals: &mut [u64]) {
     let mut standing = Standing {
         held: 0,
         lines: 0,
         left: TOLD_MAX,
     };
-    let mut turns = u64::MAX;
-    while 0 < turns {
+    'reads: for _ in 0..u64::MAX {
         let got = streams::got(stdin.read(part).ok());
         let n = streams::count_read(got, part);
         if n == 0 {
             add_last(standing, line, totals);
             return;
         }
-        standing = add_part(standing, &part[0..n], line, totals);
-        turns -= 1;
+        standing = add_part(standing, &part[..n], line, totals);
     }
 }
 

@@ -9,27 +9,24 @@ use std::rt::Env;
 // So many numbers are asked for.
 const ASKED: usize = 2;
 
-// A proved loop has to end, and nothing says that an input does: it counts down from a number of reads that no run uses up.
+// A proved loop has to end, and nothing says that an input does: it makes more reads than any run uses up.
+// Kept in each of the three programs (rule of the project): a public function of a library is decided, and what is read is not.
 fn read_numbers(mut stdin: Stdin, part: &mut [u8], numbers: &mut [u64]) -> Given {
     let mut read = Reading::start();
-    let mut turns = u64::MAX;
-    while 0 < turns {
+    'reads: for _ in 0..u64::MAX {
         let got = streams::got(stdin.read(part).ok());
         let n = streams::count_read(got, part);
         if n == 0 {
             return given_numbers::take_last(read, numbers);
         }
         read = given_numbers::take_part(read, &part[0..n], numbers);
-        turns -= 1;
     }
-    let nothing = Reading::start();
-    nothing.given
+    Reading::start().given
 }
 
 fn put_reply(buf: &mut [u8], given: Given, value: u64, field: &[u8], number: u64) -> usize {
-    let refusal = given.refusal;
-    if refusal.number() != 0 {
-        return make_reply::put_bad_number(buf, 0, given.place as u64, refusal);
+    if given.refusal.is_refused() {
+        return make_reply::put_bad_number(buf, 0, given.place as u64, given.refusal);
     }
     if given.count != ASKED {
         return turn_reply::put_not_both(buf, 0, given.count as u64);

@@ -28,7 +28,9 @@ fn reply_room() -> [u8; REPLY]
     [0; REPLY]
 }
 
-// Reads until the block is full or the input ends. What ended it is asked once more, so that an input that cannot be read is reported.
+// Reads until the block is full or the input ends. What ended it is asked once more, so that an input that cannot be
+// read is reported.
+// Kept in both programs (rule of the project): a public function of a library is decided, and what is read is not.
 fn read_block(mut stdin: Stdin, block: &mut [u8]) -> usize
     ensures { result ≤ length block.new }
 {

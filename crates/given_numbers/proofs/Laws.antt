@@ -25,10 +25,6 @@ module _ (g : Given) (kept : List ℕ) (n : Number) where
   unfolding take_number
   number_behind h = rw h
 
-  pub number_past : passed g.refusal ≡ true → eqb g.count most_lines ≡ true → take_number (g, kept) n ≡ (g, kept)
-  unfolding take_number
-  number_past h m = rw (h, m)
-
   module _ (h : passed g.refusal ≡ true) (m : eqb g.count most_lines ≡ false) where
     pub number-none : passed n.refusal ≡ false
         → take_number (g, kept) n ≡ (record { count = g.count + 1; place = g.count + 1; refusal = n.refusal }, kept)

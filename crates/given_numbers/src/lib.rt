@@ -1,4 +1,5 @@
-// The numbers that a command is given, one to a line of its input, a part of the input at a time: how many lines there are, and the first that holds none.
+// The numbers that a command is given, one to a line of its input, a part of the input at a time: how many lines there
+// are, and the first that holds none.
 #![tactic(auto)]
 
 ghost use Rattle.given_numbers.specs.Given.{take_number};
@@ -9,7 +10,9 @@ use line_reader::Rest;
 use number::{Number, NumberState};
 use refusals::Refusal;
 
-// How many lines were taken, and the place of the first that holds no number, counted from 1, with why. The place is 0 where each holds one.
+// How many lines were taken, and the place of the first that holds no number, counted from 1, with why. The place is 0
+// where each holds one.
+// Kept, place and refusal side by side: `take_part` and `take_last` take any (`PartTaken`, `LastTaken`).
 #[derive(Clone, Copy)]
 pub struct Given {
     pub count: usize,
@@ -40,6 +43,7 @@ impl Reading {
 }
 
 // A number that there is no room for is counted and not kept.
+// Kept: tried with `get_mut`, and the proof does not close where there is no place.
 fn keep(numbers: &mut [u64], at: usize, value: u64)
     ensures { numbers.new ≡ set numbers.old at value }
 {
@@ -49,20 +53,17 @@ fn keep(numbers: &mut [u64], at: usize, value: u64)
 }
 
 // The number of a line, or why it holds none. Behind the first that holds none nothing is looked at.
+#[tactic(auto, unfolding(crate::specs::Given::take_number))]
 fn take_number(given: Given, numbers: &mut [u64], number: Number) -> Given
     ensures { (result, numbers.new) ≡ take_number (given, numbers.old) number }
 {
-    let before = given.refusal;
-    if before.number() != 0 {
-        return given;
-    }
     let at = given.count;
-    if at == usize::MAX {
+    if given.refusal.is_refused() || at == usize::MAX {
         return given;
     }
     let count = at + 1;
     let refusal = number.refusal;
-    if refusal.number() != 0 {
+    if refusal.is_refused() {
         return Given {
             count,
             place: count,
@@ -84,6 +85,7 @@ pub fn take_part(from: Reading, part: &[u8], numbers: &mut [u64]) -> Reading
     let mut line = from.line;
     let mut given = from.given;
     let mut next: usize = 0;
+    // Kept: no plainer, each line gives the next offset
     while next < part.len() {
         let taken = line_reader::take_line(line, part, next);
         line = taken.state;
@@ -97,13 +99,16 @@ pub fn take_part(from: Reading, part: &[u8], numbers: &mut [u64]) -> Reading
 }
 
 // A last line without a line feed is one if it has a byte.
+#[tactic(auto, unfolding(crate::specs::Given::take_last))]
 pub fn take_last(read: Reading, numbers: &mut [u64]) -> Given
     ensures { LastTaken (read, numbers.old) (result, numbers.new) }
 {
-    let line = read.line;
-    let given = read.given;
-    if !line.is_open() {
-        return given;
+    if !read.line.is_open() {
+        return read.given;
     }
-    take_number(given, numbers, line_reader::line_number(line, Rest::Whole))
+    take_number(
+        read.given,
+        numbers,
+        line_reader::line_number(read.line, Rest::Whole),
+    )
 }

@@ -1,11 +1,14 @@
-// The sets of rows that a layout can have: an ISS for each outcome of the tests that 01's conditions name, so that every set is that of one of them, and
-// when a set fits a list of leaf values (specs/), which at most one does (proofs/).
+// The sets of rows that a layout can have: an ISS for each outcome of the tests that 01's conditions name, so that every
+// set is that of one of them, and when a set fits a list of leaf values (specs/), which at most one does (proofs/).
 #![tactic(auto)]
 
 ghost use Rattle.layout_sets.specs.Outcomes.{kind_of, status_at};
-ghost use Rattle.layout_sets.specs.Promises.{Index, Outcome};
+ghost use Rattle.layout_sets.specs.Promises.{Index, IssRow, Outcome};
 ghost use Rattle.promise.specs.Member.{member};
 ghost use Rattle.std.specs.Prelude.{cond, [], ◌∷◌, ◌≡◌};
+
+use records::{Row, kinds};
+use texts::names as n;
 
 // So many outcomes there are: bit 24, bit 10 and bit 7, and four kinds of status.
 pub const SETS: usize = 32;
@@ -14,11 +17,10 @@ fn status_at(kind: usize) -> u64
     ensures { result ≡ status_at kind }
 {
     match kind {
-        0 => 0x00,
         1 => 0x10,
         2 => 0x11,
         3 => 0x12,
-        _ => 0,
+        _ => 0x00,
     }
 }
 
@@ -41,12 +43,7 @@ fn kind_of(status: u64) -> usize
     match status {
         0x10 => 1,
         0x11 => 2,
-        0x12 => 3,
-        0x13 => 3,
-        0x14 => 3,
-        0x15 => 3,
-        0x16 => 3,
-        0x17 => 3,
+        0x12..=0x17 => 3,
         _ => 0,
     }
 }
@@ -62,4 +59,18 @@ pub fn index_of(bit_24: u64, bit_10: u64, bit_7: u64, status: u64) -> usize
     ensures { Index (bit_24, bit_10, bit_7, status) result }
 {
     weighed(bit_24, 16) + weighed(bit_10, 8) + weighed(bit_7, 4) + kind_of(status)
+}
+
+// ISS itself as a row, under the rule of its own text: the only leaf where it has no fields.
+pub fn iss_row(rule: u8) -> Row
+    ensures { IssRow rule result }
+{
+    Row {
+        start: 0,
+        width: 25,
+        name: n::ISS,
+        long: n::ISS_LONG,
+        rule,
+        kind: kinds::FREE,
+    }
 }

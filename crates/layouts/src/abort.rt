@@ -13,10 +13,7 @@ use texts::rules as r;
 fn is_external_abort_fsc(status: u64) -> bool
     ensures { result ≡ member status externals }
 {
-    match status {
-        0x10 | 0x12 | 0x13 | 0x14 | 0x15 | 0x16 | 0x17 => true,
-        _ => false,
-    }
+    matches!(status, 0x10 | 0x12 | 0x13 | 0x14 | 0x15 | 0x16 | 0x17)
 }
 
 // Classes 0x20, 0x21.

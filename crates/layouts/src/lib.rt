@@ -28,6 +28,7 @@ mod wf;
 
 // The rows of ISS from high bits to low; the indices of those to check, in order; how many there are of each; the rule of ISS's own text.
 // 101 bytes with no gap, so that a layout is copied as one block.
+// Kept: document 01 names this form, at most 14 rows by value; nothing is allocated.
 #[derive(Clone, Copy)]
 pub struct Layout {
     pub rows: [Row; Records::ISS_MAX],
@@ -58,24 +59,24 @@ pub fn layout_of(number: u8, iss: u64) -> Layout
     ensures { LayoutOf (number, iss) result }
 {
     match number {
-        numbers::RES0 => return decode_iss_res0(iss),
-        numbers::WF => return wf::decode_iss_wf(iss),
-        numbers::MCR => return mcr::decode_iss_mcr(iss),
-        numbers::MCRR => return mcr::decode_iss_mcrr(iss),
-        numbers::LDC => return ldc::decode_iss_ldc(iss),
-        numbers::SVE => return sve::decode_iss_sve(iss),
-        numbers::LD64B => return ld64b::decode_iss_ld64b(iss),
-        numbers::BTI => return bti::decode_iss_bti(iss),
-        numbers::PAUTH => return pauth::decode_iss_pauth(iss),
-        numbers::HVC => return hvc::decode_iss_hvc(iss),
-        numbers::BRK => return breakpoint::decode_iss_breakpoint(iss),
-        numbers::FP => return fp::decode_iss_fp(iss),
-        numbers::BREAKPOINT => return breakpoint::decode_iss_breakpoint_vector_catch(iss),
-        numbers::SOFTWARE_STEP => return breakpoint::decode_iss_software_step(iss),
-        numbers::WATCHPOINT => return breakpoint::decode_iss_watchpoint(iss),
-        numbers::INSTRUCTION_ABORT => return abort::decode_iss_instruction_abort(iss),
-        numbers::DATA_ABORT => return abort::decode_iss_data_abort(iss),
-        numbers::SERROR => return serror::decode_iss_serror(iss),
-        _ => return msr::decode_iss_msr(iss),
+        numbers::RES0 => decode_iss_res0(iss),
+        numbers::WF => wf::decode_iss_wf(iss),
+        numbers::MCR => mcr::decode_iss_mcr(iss),
+        numbers::MCRR => mcr::decode_iss_mcrr(iss),
+        numbers::LDC => ldc::decode_iss_ldc(iss),
+        numbers::SVE => sve::decode_iss_sve(iss),
+        numbers::LD64B => ld64b::decode_iss_ld64b(iss),
+        numbers::BTI => bti::decode_iss_bti(iss),
+        numbers::PAUTH => pauth::decode_iss_pauth(iss),
+        numbers::HVC => hvc::decode_iss_hvc(iss),
+        numbers::BRK => breakpoint::decode_iss_breakpoint(iss),
+        numbers::FP => fp::decode_iss_fp(iss),
+        numbers::BREAKPOINT => breakpoint::decode_iss_breakpoint_vector_catch(iss),
+        numbers::SOFTWARE_STEP => breakpoint::decode_iss_software_step(iss),
+        numbers::WATCHPOINT => breakpoint::decode_iss_watchpoint(iss),
+        numbers::INSTRUCTION_ABORT => abort::decode_iss_instruction_abort(iss),
+        numbers::DATA_ABORT => abort::decode_iss_data_abort(iss),
+        numbers::SERROR => serror::decode_iss_serror(iss),
+        _ => msr::decode_iss_msr(iss),
     }
 }

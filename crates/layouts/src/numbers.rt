@@ -1,4 +1,5 @@
 // The numbers of the layouts: their indices in the list of crates/tables/specs/Tables.antt.
+// Kept as numbers: document 01 asks for a table of layout numbers, and `layout_of` takes any number (`LayoutOf`).
 pub const RES0: u8 = 0;
 
 pub const WF: u8 = 1;

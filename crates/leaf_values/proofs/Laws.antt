@@ -1,16 +1,15 @@
 -- What the definitions give under the tests that the code made, and that a leaf lies in ISS, which follows from the tables' tiling.
-use Prim.Native.Nat.{ℕ, zero, suc, ◌+◌, ◌-◌, ◌*◌, ◌%◌, ◌^◌, ◌≤◌, ◌<◌}
-use mathlib.Core.Bool.{Bool, true, false, and-false, ◌&&◌}
-use mathlib.Core.List.{List, [], ◌∷◌}
-use mathlib.Core.Path.{◌≡◌, refl, sym, ap, ◌∙◌}
-use native.Mathlib.Nat.{lt_of_lt_of_le}
-use native.Mathlib.Numerals.{add-one}
+use Prim.Native.Nat.{ℕ, zero, suc, ◌+◌, ◌-◌, ◌*◌, ◌%◌, ◌^◌, ◌≤◌, ◌<◌, max, min}
+use mathlib.Core.Bool.{Bool, true, false, cond, and-false, ◌&&◌}
+use mathlib.Core.List.{List, [], ◌∷◌, ◌++◌}
+use mathlib.Core.Path.{◌≡◌, refl, sym, ap, ap₂, ◌∙◌}
+use native.Mathlib.Nat.{lt_of_lt_of_le, zero-add}
 use native.Mathlib.Omega.{arith}
 use lib.Dec.{T, eqb, leb, ltb, eqb→eq}
-use lib.ListN.{length, get_or, take, drop, drop_of_length-le, get_or-eq_default}
+use lib.ListN.{length, get_or, take, get_or-eq_default}
 use lib.Pow.{pow_mono, shl_lt, shl_exact}
-use lib.Seq.{drop-cons, get_or-take}
-use borrow.Author.Tests.{eq-eqb, eqb-true, eqb-false, ne_eqb, lt-ltb, le-ltb, ltb-true}
+use lib.Seq.{get_or-take}
+use borrow.Author.Tests.{eq-eqb, eqb-true, eqb-false, ne_eqb, lt-ltb, le-ltb, ltb-true, ltb-false}
 use Rattle.layout_sets.specs.Fitting.{leaf_rows}
 use Rattle.layouts.proofs.Indices.{layout-rows, number-sound}
 use Rattle.layouts.specs.Layouts.{layout_for, pad, table_of}
@@ -22,6 +21,9 @@ use Rattle.records.proofs.Laws.{field_lt, shifted_one}
 use Rattle.records.specs.Bits.{field_of}
 use Rattle.records.specs.Rows.{meets}
 use Rattle.records.specs.declared.Row.{Row}
+use Rattle.std.proofs.Math.Bool.{and-true}
+use Rattle.std.proofs.lemmas.List.Folds.{list_all-append}
+use Rattle.std.specs.List.{list_all, range_with_len}
 use Rattle.tables.proofs.Sound.{tiled, tiles}
 use Rattle.tables.specs.Applying.{rows_for}
 use Rattle.tables.specs.Shape.{Table}
@@ -55,24 +57,30 @@ module _ (number iss : ℕ) (l : Layout) (is : l ≡ layout_for (table_of number
   divided-leaves h =
       whole-some (table_of number) (rows_for (table_of number) iss) (λ z. h (counted ∙ z)) ∙ sym (layout-rows number iss l is)
 
-  pub one-counted : l.count ≡ 0 → 1 ≡ length (leaves_of number iss)
-  one-counted h = rw (undivided_leaves h)
-
-  pub all-counted : (l.count ≡ 0 → ⊥) → l.count ≡ length (leaves_of number iss)
-  all-counted h = counted ∙ ap length (sym (layout-rows number iss l is)) ∙ ap length (sym (divided-leaves h))
+  pub max-counted : max l.count 1 ≡ length (leaves_of number iss)
+  max-counted = by-test (eqb l.count 0) refl
+    where
+      by-test : (b : Bool) → eqb l.count 0 ≡ b → max l.count 1 ≡ length (leaves_of number iss)
+      by-test true e = rw (undivided_leaves (eqb-true l.count 0 e), eqb-true l.count 0 e)
+      by-test false e =
+          let all = counted ∙ ap length (sym (layout-rows number iss l is)) ∙ ap length (sym (divided-leaves (eqb-false l.count 0 e))) in
+          omega (arith, all, eqb-false l.count 0 e)
 
   module _ (index : ℕ) where
     pub leaf-here : index < l.count → get_or l.rows index pad ≡ leaf_row number iss index
     unfolding leaf_row
     leaf-here h = rw (divided-leaves (λ z. omega arith), get_or-take l.count l.rows index pad h)
 
-    pub leaf-past : l.count ≤ index → (l.count ≡ 0 → ⊥) → pad ≡ leaf_row number iss index
+    pub leaf-past : l.count ≤ index → (l.count ≡ 0 → index ≡ 0 → ⊥) → pad ≡ leaf_row number iss index
     unfolding leaf_row
-    leaf-past h n = sym (get_or-eq_default (leaves_of number iss) pad (omega (arith, all-counted n)))
-
-    pub leaf-other : l.count ≡ 0 → (index ≡ 0 → ⊥) → pad ≡ leaf_row number iss index
-    unfolding leaf_row
-    leaf-other z n = rw (undivided_leaves z) (sym (one-leaf (iss_under l.rule) index n))
+    leaf-past h n = by-test (eqb l.count 0) refl
+      where
+        by-test : (b : Bool) → eqb l.count 0 ≡ b → pad ≡ get_or (leaves_of number iss) index pad
+        by-test true e =
+            let z = eqb-true l.count 0 e in rw (undivided_leaves z) (sym (one-leaf (iss_under l.rule) index (n z)))
+        by-test false e =
+            let d = divided-leaves (eqb-false l.count 0 e) in
+            sym (get_or-eq_default (leaves_of number iss) pad (omega (arith, max-counted, eqb-false l.count 0 e)))
 
     pub leaf-whole : l.count ≡ 0 → index ≡ 0 → iss_under l.rule ≡ leaf_row number iss index
     unfolding leaf_row
@@ -80,57 +88,79 @@ module _ (number iss : ℕ) (l : Layout) (is : l ≡ layout_for (table_of number
 
 -- Rows compared.
 
-module _ (a b : Row) where
-  pub other-start : (a.start ≡ b.start → ⊥) → false ≡ same_row a b
-  unfolding same_row
-  other-start h = rw (ne_eqb a.start b.start h)
+left : (a b c : Bool) → a && (b && c) ≡ (a && b) && c
+left true b c = refl
+left false b c = refl
 
-  module _ (s : a.start ≡ b.start) where
-    pub other_width : (a.width ≡ b.width → ⊥) → false ≡ same_row a b
-    unfolding same_row
-    other_width h = rw (eq-eqb a.start b.start s, ne_eqb a.width b.width h)
+-- the derived comparison groups its tests to the right
+pub columns : (a b : Row)
+    → eqb a.start b.start && (eqb a.width b.width && (eqb a.name b.name && (eqb a.long b.long && (eqb a.rule b.rule && eqb a.kind b.kind))))
+    ≡ same_row a b
+unfolding same_row
+columns a b =
+    let s = eqb a.start b.start in
+    let w = eqb a.width b.width in
+    let n = eqb a.name b.name in
+    let l = eqb a.long b.long in
+    let r = eqb a.rule b.rule in
+    let k = eqb a.kind b.kind in
+    left s w (n && (l && (r && k))) ∙ left (s && w) n (l && (r && k))
+    ∙ left (s && w && n) l (r && k) ∙ left (s && w && n && l) r k
 
-    module _ (w : a.width ≡ b.width) where
-      pub other_name : (a.name ≡ b.name → ⊥) → false ≡ same_row a b
-      unfolding same_row
-      other_name h = rw (eq-eqb a.start b.start s, eq-eqb a.width b.width w, ne_eqb a.name b.name h)
-
-      module _ (n : a.name ≡ b.name) where
-        pub other-long : (a.long ≡ b.long → ⊥) → false ≡ same_row a b
-        unfolding same_row
-        other-long h = rw (eq-eqb a.start b.start s, eq-eqb a.width b.width w, eq-eqb a.name b.name n, ne_eqb a.long b.long h)
-
-        module _ (l : a.long ≡ b.long) where
-          pub other-rule : (a.rule ≡ b.rule → ⊥) → false ≡ same_row a b
-          unfolding same_row
-          other-rule h =
-              rw (eq-eqb a.start b.start s, eq-eqb a.width b.width w, eq-eqb a.name b.name n, eq-eqb a.long b.long l, ne_eqb a.rule b.rule h)
-
-          pub by_kind : a.rule ≡ b.rule → eqb a.kind b.kind ≡ same_row a b
-          unfolding same_row
-          by_kind r =
-              rw (eq-eqb a.start b.start s, eq-eqb a.width b.width w, eq-eqb a.name b.name n, eq-eqb a.long b.long l, eq-eqb a.rule b.rule r)
+pub other-rule : (a b : Row) → a.start ≡ b.start → a.width ≡ b.width → a.name ≡ b.name → a.long ≡ b.long
+    → (a.rule ≡ b.rule → ⊥) → false ≡ same_row a b
+unfolding same_row
+other-rule a b s w n l h =
+    rw (
+      eq-eqb a.start b.start s,
+      eq-eqb a.width b.width w,
+      eq-eqb a.name b.name n,
+      eq-eqb a.long b.long l,
+      ne_eqb a.rule b.rule h,
+    )
 
 pub other_lengths : (xs ys : List Row) → (length ys ≡ length xs → ⊥) → same_rows xs ys ≡ false
 unfolding same_rows
 other_lengths [] [] h = absurd (h refl)
 other_lengths [] (y ∷ ys) h = refl
 other_lengths (x ∷ xs) [] h = refl
-other_lengths (x ∷ xs) (y ∷ ys) h = ap (λ (t : Bool). same_row x y && t) (other_lengths xs ys (λ e. h (ap suc e))) ∙ and-false (same_row x y)
+other_lengths (x ∷ xs) (y ∷ ys) h =
+    ap (λ (t : Bool). same_row x y && t) (other_lengths xs ys (λ e. h (ap suc e))) ∙ and-false (same_row x y)
 
-module _ (xs ys : List Row) (i : ℕ) where
-  pub rows-done : length xs ≤ i → length ys ≤ i → same_rows (drop i xs) (drop i ys) ≡ true
-  unfolding same_rows
-  rows-done h k = rw (drop_of_length-le xs h, drop_of_length-le ys k)
+-- Tests of all numbers of a range.
 
-  module _ (h : i < length xs) (k : i < length ys) where
-    pub rows_other : same_row (get_or xs i pad) (get_or ys i pad) ≡ false → same_rows (drop i xs) (drop i ys) ≡ false
-    unfolding same_rows
-    rows_other e = rw (drop-cons xs i pad h, drop-cons ys i pad k, e)
+-- the last number of a range stands alone
+pub range_more : (a n : ℕ) → range_with_len a (suc n) ≡ range_with_len a n ++ (a + n) ∷ []
+range_more a zero = ap (λ (k : ℕ). k ∷ []) (omega arith)
+range_more a (suc n) =
+    ap (λ (l : List ℕ). a ∷ l)
+    (range_more (a + 1) n ∙ ap (λ (k : ℕ). range_with_len (a + 1) n ++ k ∷ []) (omega arith))
 
-    pub rows_more : same_row (get_or xs i pad) (get_or ys i pad) ≡ true → same_rows (drop i xs) (drop i ys) ≡ same_rows (drop (i + 1) xs) (drop (i + 1) ys)
-    unfolding same_rows
-    rows_more e = rw (drop-cons xs i pad h, drop-cons ys i pad k, e, add-one i)
+pub all_is : (f : ℕ → Bool) (n : ℕ) → list_all f (range_with_len 0 n) ≡ all_below f n
+unfolding all_below
+all_is f zero = refl
+all_is f (suc n) =
+    ap (list_all f) (range_more 0 n) ∙ list_all-append f (range_with_len 0 n) ((0 + n) ∷ [])
+    ∙ ap₂ ◌&&◌ (all_is f n) (and-true (f (0 + n)) ∙ ap f (zero-add n))
+
+-- the first number of a range stands alone
+shifted : (f : ℕ → Bool) (a n : ℕ)
+    → list_all f (range_with_len (suc a) n) ≡ list_all (λ (i : ℕ). f (suc i)) (range_with_len a n)
+shifted f a zero = refl
+shifted f a (suc n) =
+    let e : suc a + 1 ≡ suc (a + 1) = omega arith in
+    ap (λ (b : Bool). f (suc a) && b) (ap (λ (k : ℕ). list_all f (range_with_len k n)) e ∙ shifted f (a + 1) n)
+
+pub rows_are : (xs ys : List Row) → length xs ≡ length ys
+    → list_all (λ (i : ℕ). same_row (get_or xs i pad) (get_or ys i pad)) (range_with_len 0 (length xs)) ≡ same_rows xs ys
+unfolding same_rows
+rows_are [] [] h = refl
+rows_are [] (y ∷ ys) h = absurd (omega arith)
+rows_are (x ∷ xs) [] h = absurd (omega arith)
+rows_are (x ∷ xs) (y ∷ ys) h =
+    ap (λ (b : Bool). same_row x y && b)
+    (shifted (λ (i : ℕ). same_row (get_or (x ∷ xs) i pad) (get_or (y ∷ ys) i pad)) 0 (length xs)
+    ∙ rows_are xs ys (omega arith))
 
 -- A leaf lies in ISS: every table's rows tile it.
 
@@ -193,13 +223,13 @@ module _ (iss start width x : ℕ) (within : start + width ≤ 25) (small : x < 
 
 -- The values that are looked at.
 
-pub narrow_room : (width : ℕ) → width < 6 → 1 * 2 ^ width % 2 ^ 64 ≡ room_of width
+pub room_is : (width : ℕ) → 1 * 2 ^ min width 6 % 2 ^ 64 ≡ room_of width
 unfolding room_of
-narrow_room width h = rw (lt-ltb width 6 h) (shifted_one 64 width (omega arith))
-
-pub wide_room : (width : ℕ) → 6 ≤ width → 64 ≡ room_of width
-unfolding room_of
-wide_room width h = rw (le-ltb width 6 h)
+room_is width = shifted_one 64 (min width 6) (omega arith) ∙ by-test (ltb width 6) refl
+  where
+    by-test : (b : Bool) → ltb width 6 ≡ b → 2 ^ min width 6 ≡ cond b (2 ^ width) 64
+    by-test true e = let m : min width 6 ≡ width = omega (arith, ltb-true width 6 e) in rw m
+    by-test false e = let m : min width 6 ≡ 6 = omega (arith, ltb-false width 6 e) in rw m
 
 pub room_small : (width : ℕ) → room_of width ≤ 64
 unfolding room_of
@@ -222,21 +252,3 @@ module _ (number iss index x : ℕ) (r : Row) (is : r ≡ leaf_row number iss in
     pub may_by_rows : meets (put_at iss r.start r.width x) r ≡ true → same_leaves number (put_at iss r.start r.width x) iss ≡ may_be number iss index x
     unfolding may_be
     may_by_rows e = rw (← is, lt-ltb x (room_of r.width) h, e)
-
-module _ (f : ℕ → Bool) where
-  pub none_below : all_below f 0 ≡ true
-  unfolding all_below
-  none_below = refl
-
-  pub one_below : (n : ℕ) → all_below f n ≡ true → f n ≡ true → all_below f (n + 1) ≡ true
-  unfolding all_below
-  one_below n h e = rw (add-one n, h, e)
-
-  pub fails-below : (x n : ℕ) → f x ≡ false → x < n → all_below f n ≡ false
-  unfolding all_below
-  fails-below x zero e h = absurd (omega arith)
-  fails-below x (suc n) e h = by-test (eqb x n) refl (fails-below x n e)
-    where
-      by-test : (b : Bool) → eqb x n ≡ b → (x < n → all_below f n ≡ false) → (all_below f n && f n) ≡ false
-      by-test true t below = ap (λ (k : Bool). all_below f n && k) (ap f (sym (eqb-true x n t)) ∙ e) ∙ and-false (all_below f n)
-      by-test false t below = ap (λ (k : Bool). k && f n) (below (omega (arith, eqb-false x n t)))

@@ -1,4 +1,5 @@
-// The leaves of ISS by the number of a layout, and the values that each may have: those that its row allows and that leave the rows as they are.
+// The leaves of ISS by the number of a layout, and the values that each may have: those that its row allows and that
+// leave the rows as they are.
 #![tactic(auto)]
 
 ghost use Rattle.std.specs.Prelude.{◌+◌, ◌<◌, ◌≤◌, ◌≡◌};
@@ -6,11 +7,13 @@ ghost use Rattle.leaf_values.specs.Leaves.{same_row};
 ghost use Rattle.leaf_values.specs.Promises.{AnyMay, LeafRow, LeafCount, MayBe, RoomOf, SameLeaves, SameSets};
 ghost use Rattle.leaf_values.specs.Values.{put_at};
 
+use layout_sets::iss_row;
 use layouts::layout_of;
 use records::{Row, kinds as k};
 use texts::{names as n, rules as r};
 
-// What stands past the last leaf.
+// What stands past the last leaf. Kept beside that of layouts, no plainer: a constant is spared, and a private one of
+// another crate becomes public for it.
 const PAD: Row = Row {
     start: 0,
     width: 0,
@@ -28,11 +31,7 @@ const NARROW: u8 = 6;
 pub fn leaf_count(number: u8, iss: u64) -> usize
     ensures { LeafCount (number, iss) result }
 {
-    let layout = layout_of(number, iss);
-    if layout.count == 0 {
-        return 1;
-    }
-    layout.count as usize
+    (layout_of(number, iss).count as usize).max(1)
 }
 
 pub fn leaf_row(number: u8, iss: u64, index: usize) -> Row
@@ -42,42 +41,17 @@ pub fn leaf_row(number: u8, iss: u64, index: usize) -> Row
     if index < layout.count as usize {
         return layout.rows[index];
     }
-    if layout.count != 0 {
-        return PAD;
-    }
-    if index != 0 {
-        return PAD;
-    }
     // ISS itself, where it has no fields.
-    Row {
-        start: 0,
-        width: ISS_WIDTH,
-        name: n::ISS,
-        long: n::ISS_LONG,
-        rule: layout.rule,
-        kind: k::FREE,
+    if layout.count == 0 && index == 0 {
+        return iss_row(layout.rule);
     }
+    PAD
 }
 
 fn same_row(a: Row, b: Row) -> bool
     ensures { result ≡ same_row a b }
 {
-    if a.start != b.start {
-        return false;
-    }
-    if a.width != b.width {
-        return false;
-    }
-    if a.name != b.name {
-        return false;
-    }
-    if a.long != b.long {
-        return false;
-    }
-    if a.rule != b.rule {
-        return false;
-    }
-    a.kind == b.kind
+    a == b
 }
 
 // Of two layouts, each with an ISS (#114).
@@ -88,14 +62,7 @@ pub fn same_sets(number: u8, iss: u64, second: u8, other: u64) -> bool
     if leaf_count(second, other) != count {
         return false;
     }
-    let mut i: usize = 0;
-    while i < count {
-        if !same_row(leaf_row(number, iss, i), leaf_row(second, other, i)) {
-            return false;
-        }
-        i += 1;
-    }
-    true
+    (0..count).all(|i| same_row(leaf_row(number, iss, i), leaf_row(second, other, i)))
 }
 
 pub fn same_leaves(number: u8, iss: u64, other: u64) -> bool
@@ -107,10 +74,7 @@ pub fn same_leaves(number: u8, iss: u64, other: u64) -> bool
 pub fn room_of(width: u8) -> u64
     ensures { RoomOf width result }
 {
-    if width < NARROW {
-        return 1 << width;
-    }
-    1 << NARROW
+    1 << width.min(NARROW)
 }
 
 // An ISS with another value in a field.
@@ -144,13 +108,5 @@ pub fn any_may(number: u8, iss: u64, index: usize) -> bool
     ensures { AnyMay (number, iss, index) result }
 {
     let row = leaf_row(number, iss, index);
-    let room = room_of(row.width);
-    let mut x: u64 = 0;
-    while x < room {
-        if !may_be(number, iss, index, x) {
-            return false;
-        }
-        x += 1;
-    }
-    true
+    (0..room_of(row.width)).all(|x| may_be(number, iss, index, x))
 }

@@ -1,4 +1,5 @@
-// The bytes of a line, a part of the input at a time, so that lines of any length go through a fixed buffer; where a line ends; and its number.
+// The bytes of a line, a part of the input at a time, so that lines of any length go through a fixed buffer; where a
+// line ends; and its number.
 #![tactic(auto)]
 
 ghost use Rattle.line_reader.specs.Promises.{LineEnded, NumberOfLine, RestAsked, TookLine};
@@ -14,7 +15,9 @@ pub enum Rest {
     Skipped,
 }
 
-// How far a part of the input goes into a line: the state, the offset after what was taken, and whether a line feed ended the line.
+// How far a part of the input goes into a line: the state, the offset after what was taken, and whether a line feed
+// ended the line.
+// Kept, no plainer: the flag is no Option's, since state and offset are told of a line that goes on too.
 #[derive(Clone, Copy)]
 pub struct LinePart {
     pub state: NumberState,
@@ -23,12 +26,10 @@ pub struct LinePart {
 }
 
 // Takes a part of the input, from an offset on, as far as the line goes.
-pub fn take_line(state: NumberState, s: &[u8], from: usize) -> LinePart
+pub fn take_line(mut state: NumberState, s: &[u8], from: usize) -> LinePart
     ensures { TookLine (state, s.now, from) result }
 {
-    let mut state = state;
-    let mut at = from;
-    while at < s.len() {
+    for at in from..s.len() {
         let b = s[at];
         if b == b'\n' {
             return LinePart {
@@ -38,11 +39,10 @@ pub fn take_line(state: NumberState, s: &[u8], from: usize) -> LinePart
             };
         }
         state = state.step(b);
-        at += 1;
     }
     LinePart {
         state,
-        next: at,
+        next: from.max(s.len()),
         ended: false,
     }
 }
@@ -51,14 +51,8 @@ pub fn take_line(state: NumberState, s: &[u8], from: usize) -> LinePart
 pub fn line_end(s: &[u8], from: usize) -> usize
     ensures { LineEnded (s.now, from) result }
 {
-    let mut at = from;
-    while at < s.len() {
-        if s[at] == b'\n' {
-            return at;
-        }
-        at += 1;
-    }
-    at
+    let rest = &s[from.min(s.len())..];
+    from + rest.iter().position(|b| *b == b'\n').unwrap_or(rest.len())
 }
 
 // The number of a line that has ended.
@@ -66,12 +60,13 @@ pub fn line_number(state: NumberState, rest: Rest) -> Number
     ensures { NumberOfLine (state, rest) result }
 {
     match rest {
-        Rest::Whole => return state.finish(),
-        Rest::Skipped => return state.finish_before(),
+        Rest::Whole => state.finish(),
+        Rest::Skipped => state.finish_before(),
     }
 }
 
-// What a program's option asks for: `--remarks` passes over what stands behind the number; without it a line is one whole number.
+// What a program's option asks for: `--remarks` passes over what stands behind the number; without it a line is one
+// whole number.
 pub fn rest_asked(option: &[u8]) -> Rest
     ensures { RestAsked option.now result }
 {

@@ -4,12 +4,13 @@ use mathlib.Core.List.{List}
 use mathlib.Core.Path.{◌≡◌, sym, ap, ◌∙◌, subst}
 use Prim.Native.Nat.{ℕ, ◌≤◌, ◌<◌}
 use native.Mathlib.Omega.{arith}
-use borrow.Author.Tests.{lt-ltb, le-ltb, eq-eqb, ne_eqb}
+use borrow.Author.Tests.{lt-ltb, le-ltb}
 use lib.ListN.{length, get_or}
 use lib.Seq.{get_or-take, length-take-le}
-use Rattle.refusals.specs.Refusals.{bare, carrying, refusal_number}
+use Rattle.std.specs.Prelude.{Result, Ok, Err}
+use Rattle.refusals.specs.Refusals.{bare, carrying, checked, passed}
 use Rattle.refusals.specs.declared.Refusal.{Refusal}
-use Rattle.refusals.proofs.Cases.{passed_yes, passed_no}
+use Rattle.refusals.proofs.Cases.{check-ok, check-err, check-same}
 use Rattle.phrases.specs.Sheets.{both_sound, judged_both, text_in}
 use Rattle.refusals.specs.declared.Reason.TheVariants.{BadIndex}
 use Rattle.records.specs.Sets.{set_room, no_record, record_at, list_of}
@@ -22,39 +23,44 @@ use Rattle.listing.specs.Requested.{line_in, record_line, listing_of, listing_wi
 use Rattle.display.specs.Listings.{line_text, listing, listing_with}
 use Rattle.texts.specs.Pool.{bytes_at}
 
-module _ (esr : ℕ) {a : Answer} {n : ℕ} (is : a ≡ answer_of esr) (by : n ≡ refusal_number a.refusal) where
-  pub listing_no : (n ≡ 0 → ⊥) → listing_of esr ≡ refused a.refusal
+module _ (esr : ℕ) {a : Answer} {u : Result Unit Refusal} (is : a ≡ answer_of esr)
+    (checks : u ≡ checked a.refusal) where
+  pub listing_no : {g : Refusal} → u ≡ Err g → listing_of esr ≡ refused g
   unfolding listing_of
-  listing_no h = rw (← is, ne_eqb (refusal_number a.refusal) 0 (λ e. h (by ∙ e)))
+  listing_no h = rw (← is, check-err a.refusal checks h, check-same a.refusal checks h)
 
-  pub listing_yes : n ≡ 0 → listing_of esr ≡ text (listing bytes_at (list_of a.records))
+  pub listing_yes : {v : Unit {0}} → u ≡ Ok v → listing_of esr ≡ text (listing bytes_at (list_of a.records))
   unfolding listing_of
-  listing_yes h = rw (← is, eq-eqb (refusal_number a.refusal) 0 (sym by ∙ h))
+  listing_yes h = rw (← is, check-ok a.refusal checks h)
 
-  pub with_no : (workshop standard : List ℕ) → (n ≡ 0 → ⊥) → listing_with_of esr workshop standard ≡ refused a.refusal
+  pub with_no : (workshop standard : List ℕ) {g : Refusal} → u ≡ Err g
+      → listing_with_of esr workshop standard ≡ refused g
   unfolding listing_with_of
-  with_no workshop standard h = rw (← is, ne_eqb (refusal_number a.refusal) 0 (λ e. h (by ∙ e)))
+  with_no workshop standard h = rw (← is, check-err a.refusal checks h, check-same a.refusal checks h)
 
-  module _ (workshop standard : List ℕ) (decoded : n ≡ 0) {f : Refusal} (judged : f ≡ bare (judged_both workshop standard)) {m : ℕ} (told : m ≡ refusal_number f) where
-    pub with_bad : (m ≡ 0 → ⊥) → listing_with_of esr workshop standard ≡ refused f
+  module _ (workshop standard : List ℕ) {v : Unit {0}} (decoded : u ≡ Ok v) {f : Refusal} {w : Result Unit Refusal}
+      (judged : f ≡ bare (judged_both workshop standard)) (told : w ≡ checked f) where
+    pub with_bad : {g : Refusal} → w ≡ Err g → listing_with_of esr workshop standard ≡ refused g
     unfolding listing_with_of
     with_bad h =
-        let no : both_sound workshop standard ≡ false = passed_no (bare (judged_both workshop standard)) (told ∙ ap refusal_number judged) h in
-        rw (← is, eq-eqb (refusal_number a.refusal) 0 (sym by ∙ decoded), no, judged)
+        let no : both_sound workshop standard ≡ false = ap passed (sym judged) ∙ check-err f told h in
+        rw (← is, check-ok a.refusal checks decoded, no, ← judged, check-same f told h)
 
-    pub with_yes : m ≡ 0 → listing_with_of esr workshop standard ≡ text (listing_with bytes_at (text_in workshop standard) (list_of a.records))
+    pub with_yes : {y : Unit {0}} → w ≡ Ok y
+        → listing_with_of esr workshop standard
+        ≡ text (listing_with bytes_at (text_in workshop standard) (list_of a.records))
     unfolding listing_with_of
     with_yes h =
-        let yes : both_sound workshop standard ≡ true = passed_yes (bare (judged_both workshop standard)) (told ∙ ap refusal_number judged) h in
-        rw (← is, eq-eqb (refusal_number a.refusal) 0 (sym by ∙ decoded), yes)
+        let yes : both_sound workshop standard ≡ true = ap passed (sym judged) ∙ check-ok f told h in
+        rw (← is, check-ok a.refusal checks decoded, yes)
 
-  pub line_refused : (n ≡ 0 → ⊥) → (index : ℕ) → record_line esr index ≡ refused a.refusal
+  pub line_refused : {g : Refusal} → u ≡ Err g → (index : ℕ) → record_line esr index ≡ refused g
   unfolding record_line
-  line_refused h index = rw (← is, ne_eqb (refusal_number a.refusal) 0 (λ e. h (by ∙ e)))
+  line_refused h index = rw (← is, check-err a.refusal checks h, check-same a.refusal checks h)
 
-  line_in_lem : n ≡ 0 → (index : ℕ) → record_line esr index ≡ line_in (list_of a.records) index
+  line_in_lem : {v : Unit {0}} → u ≡ Ok v → (index : ℕ) → record_line esr index ≡ line_in (list_of a.records) index
   unfolding record_line
-  line_in_lem h index = rw (← is, eq-eqb (refusal_number a.refusal) 0 (sym by ∙ h))
+  line_in_lem h index = rw (← is, check-ok a.refusal checks h)
 
   -- a set has room for what it counts
   module _ (slots : length a.records.items ≡ set_room) where
@@ -64,11 +70,13 @@ module _ (esr : ℕ) {a : Answer} {n : ℕ} (is : a ≡ answer_of esr) (by : n �
     counted : length (list_of a.records) ≡ a.records.count
     counted = length-take-le a.records.count a.records.items (omega (arith, room))
 
-    pub line_no : n ≡ 0 → (index : ℕ) → a.records.count ≤ index → record_line esr index ≡ refused (carrying BadIndex a.records.count)
+    pub line_no : {v : Unit {0}} → u ≡ Ok v → (index : ℕ) → a.records.count ≤ index
+        → record_line esr index ≡ refused (carrying BadIndex a.records.count)
     unfolding line_in
     line_no h index past = line_in_lem h index ∙ rw (counted, le-ltb index a.records.count past)
 
-    pub line_yes : n ≡ 0 → (index : ℕ) → index < a.records.count → (r : Record) → r ≡ record_at a.records index
+    pub line_yes : {v : Unit {0}} → u ≡ Ok v → (index : ℕ) → index < a.records.count → (r : Record)
+        → r ≡ record_at a.records index
         → record_line esr index ≡ text (line_text bytes_at r)
     unfolding line_in record_at
     line_yes h index within r e =

@@ -13,13 +13,13 @@ use reply_lines::{put_number_line, put_refusal};
 use strict::{Profile, decode_by};
 
 // Of a value, whatever it came from, read by a profile (#110).
+// No plainer as one with `put_listed_with`: what is common is two lines, and a closure over the buffer has a longer contract.
 pub fn put_listed(buf: &mut [u8], at: usize, profile: Profile, esr: u64) -> usize
     ensures { ListedPut (buf.old, at, profile, esr) (result, buf.new) }
 {
     let answer = decode_by(profile, esr);
-    let refusal = answer.refusal;
-    if refusal.number() != 0 {
-        return put_refusal(buf, at, refusal);
+    if answer.refusal.is_refused() {
+        return put_refusal(buf, at, answer.refusal);
     }
     let pool = texts::pool_bytes();
     let starts = texts::text_starts();
@@ -33,14 +33,14 @@ fn put_name(buf: &mut [u8], at: usize, line: u64, number: Number) -> usize
     if line == 0 {
         return at;
     }
-    let refusal = number.refusal;
-    if refusal.number() != 0 {
+    if number.refusal.is_refused() {
         return put_number_line(buf, at, b"> line ", Base::Decimal, line);
     }
     put_number_line(buf, at, b"> 0x", Base::Hex, number.value)
 }
 
 // Line 0 is the only line, which has no name.
+// No plainer as one with `put_listing_with_reply`: what is common is four lines, and a closure over the buffer has a longer contract.
 pub fn put_listing_reply(
     buf: &mut [u8],
     at: usize,
@@ -51,9 +51,8 @@ pub fn put_listing_reply(
     ensures { ListingReply (buf.old, at, profile, line, number) (result, buf.new) }
 {
     let next = put_name(buf, at, line, number);
-    let refusal = number.refusal;
-    if refusal.number() != 0 {
-        return put_refusal(buf, next, refusal);
+    if number.refusal.is_refused() {
+        return put_refusal(buf, next, number.refusal);
     }
     put_listed(buf, next, profile, number.value)
 }
@@ -70,12 +69,11 @@ fn put_listed_with(
     ensures { Appends (listed_with profile workshop.now standard.now esr) (at, buf.old) (result, buf.new) }
 {
     let decoded = decode_by(profile, esr);
-    let of_value = decoded.refusal;
-    if of_value.number() != 0 {
-        return put_refusal(buf, at, of_value);
+    if decoded.refusal.is_refused() {
+        return put_refusal(buf, at, decoded.refusal);
     }
     let of_sheets = phrases::sheets_refusal(workshop, standard);
-    if of_sheets.number() != 0 {
+    if of_sheets.is_refused() {
         return put_refusal(buf, at, of_sheets);
     }
     let pool = texts::pool_bytes();
@@ -96,9 +94,8 @@ pub fn put_listing_with_reply(
     ensures { ListingWithReply (buf.old, at, profile, line, number, workshop.now, standard.now) (result, buf.new) }
 {
     let next = put_name(buf, at, line, number);
-    let refusal = number.refusal;
-    if refusal.number() != 0 {
-        return put_refusal(buf, next, refusal);
+    if number.refusal.is_refused() {
+        return put_refusal(buf, next, number.refusal);
     }
     put_listed_with(buf, next, profile, workshop, standard, number.value)
 }

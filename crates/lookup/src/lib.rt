@@ -7,19 +7,15 @@ ghost use Rattle.std.specs.Prelude.{◌≡◌};
 
 use texts::{pool, rules};
 
+// 0 for a code past the last start, and no Option: kept, `LengthIn` says so.
 pub fn length_in(starts: &[u16], code: u16) -> u16
     ensures { LengthIn (starts.now, code) result }
 {
     let at = code as usize;
-    if starts.len() <= at + 1 {
+    let Some(to) = starts.get(at + 1) else {
         return 0;
-    }
-    let from = starts[at];
-    let to = starts[at + 1];
-    if to < from {
-        return 0;
-    }
-    to - from
+    };
+    to.saturating_sub(starts[at])
 }
 
 pub fn length_of(code: u16) -> u16
@@ -80,6 +76,7 @@ pub fn describes(rule: u8, value: u64) -> bool
     has(s.0, value)
 }
 
+// 0 for no text, and no Option: kept, `TextCode` says so; document 01 names codes into the pool.
 pub fn text_code(rule: u8, value: u64) -> u16
     ensures { TextCode (rule, value) result }
 {

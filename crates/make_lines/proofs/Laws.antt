@@ -1,18 +1,22 @@
 -- What the definitions give under the tests that the code made; texts and tests of one number more.
-use Prim.Native.Nat.{ℕ, zero, suc, ◌+◌, ◌-◌, ◌<◌}
+use Prim.Native.Nat.{ℕ, zero, suc, ◌+◌, ◌-◌}
 use mathlib.Core.Bool.{Bool, true, false, ◌||◌}
-use mathlib.Core.List.{List, [], ◌++◌, append_assoc}
-use mathlib.Core.Path.{◌≡◌, refl, sym, ap, ◌∙◌}
+use mathlib.Core.List.{List, [], ◌∷◌, ◌++◌, append_assoc}
+use mathlib.Core.Path.{◌≡◌, refl, sym, ap, ap₂, ◌∙◌}
+use native.Mathlib.Nat.{zero-add}
 use native.Mathlib.Numerals.{add-one}
 use native.Mathlib.Omega.{arith}
-use lib.Dec.{eqb}
-use borrow.Author.Tests.{eq-eqb, eqb-true, eqb-false, ne_eqb}
+use borrow.Author.Tests.{eq-eqb, ne_eqb}
 use Rattle.digits.specs.Digits.{numeral}
 use Rattle.layout_sets.specs.Outcomes.{outcome_of}
 use Rattle.leaf_values.specs.Values.{any_may, leaf_row, may_be, room_of}
+use Rattle.leaf_values.proofs.Laws.{range_more}
 use Rattle.make_lines.specs.Below.{below, some_below}
-use Rattle.make_lines.specs.Help.{before, is_seen, leaves_part, name_part, run_part, set_at, set_text, values_part, width_part}
+use Rattle.make_lines.specs.Help.{before, is_seen, counted, name_part, run_part, set_at, set_text, values_part}
 use Rattle.records.specs.declared.Row.{Row}
+use Rattle.std.proofs.Math.Bool.{or-false}
+use Rattle.std.proofs.lemmas.List.Folds.{list_any-append}
+use Rattle.std.specs.List.{list_any, range_with_len}
 use Rattle.texts.specs.Pool.{bytes, bytes_at}
 
 -- One number more.
@@ -26,27 +30,12 @@ module _ (text : ℕ → List ℕ) where
   unfolding below
   below_more n = rw (add-one n)
 
-or_true : (a : Bool) → (a || true) ≡ true
-or_true true = refl
-or_true false = refl
-
-module _ (f : ℕ → Bool) where
-  pub some-none : some_below f 0 ≡ false
-  unfolding some_below
-  some-none = refl
-
-  pub some_more : (n : ℕ) → some_below f n ≡ false → f n ≡ false → some_below f (n + 1) ≡ false
-  unfolding some_below
-  some_more n h e = rw (add-one n, h, e)
-
-  pub some-found : (x n : ℕ) → f x ≡ true → x < n → some_below f n ≡ true
-  unfolding some_below
-  some-found x zero e h = absurd (omega arith)
-  some-found x (suc n) e h = by-test (eqb x n) refl (some-found x n e)
-    where
-      by-test : (b : Bool) → eqb x n ≡ b → (x < n → some_below f n ≡ true) → (some_below f n || f n) ≡ true
-      by-test true t found = ap (λ (k : Bool). some_below f n || k) (ap f (sym (eqb-true x n t)) ∙ e) ∙ or_true (some_below f n)
-      by-test false t found = ap (λ (k : Bool). k || f n) (found (omega (arith, eqb-false x n t)))
+pub any_is : (f : ℕ → Bool) (n : ℕ) → list_any f (range_with_len 0 n) ≡ some_below f n
+unfolding some_below
+any_is f zero = refl
+any_is f (suc n) =
+    ap (list_any f) (range_more 0 n) ∙ list_any-append f (range_with_len 0 n) ((0 + n) ∷ [])
+    ∙ ap₂ ◌||◌ (any_is f n) (or-false (f (0 + n)) ∙ ap f (zero-add n))
 
 -- Runs of values.
 
@@ -90,21 +79,14 @@ module _ (number iss index : ℕ) where
   unfolding values_part
   values-some room e h = rw (h, e)
 
-pub width_one : (w : ℕ) → w ≡ 1 → width_part w ≡ numeral 10 w ++ bytes " bit"
-unfolding width_part
-width_one w h = rw (eq-eqb w 1 h)
+module _ (n : ℕ) (one more : List ℕ) where
+  pub counted-one : n ≡ 1 → counted n one more ≡ numeral 10 n ++ one
+  unfolding counted
+  counted-one h = rw (eq-eqb n 1 h)
 
-pub width-more : (w : ℕ) → (w ≡ 1 → ⊥) → width_part w ≡ numeral 10 w ++ bytes " bits"
-unfolding width_part
-width-more w h = rw (ne_eqb w 1 h)
-
-pub leaves-one : (n : ℕ) → n ≡ 1 → leaves_part n ≡ numeral 10 n ++ bytes " leaf"
-unfolding leaves_part
-leaves-one n h = rw (eq-eqb n 1 h)
-
-pub leaves-more : (n : ℕ) → (n ≡ 1 → ⊥) → leaves_part n ≡ numeral 10 n ++ bytes " leaves"
-unfolding leaves_part
-leaves-more n h = rw (ne_eqb n 1 h)
+  pub counted-more : (n ≡ 1 → ⊥) → counted n one more ≡ numeral 10 n ++ more
+  unfolding counted
+  counted-more h = rw (ne_eqb n 1 h)
 
 pub name-short : (r : Row) → r.long ≡ 0 → name_part r ≡ bytes_at r.name ++ []
 unfolding name_part

@@ -23,8 +23,12 @@ unfoldable pub values_part : ℕ → ℕ → ℕ → List ℕ
 values_part number iss index =
     cond (any_may number iss index) [] (bytes ":" ++ below (run_part (may_be number iss index)) (room_of (leaf_row number iss index).width))
 
+-- a number, and the word for one of them or for several
+unfoldable pub counted : ℕ → List ℕ → List ℕ → List ℕ
+counted n one more = numeral 10 n ++ cond (eqb n 1) one more
+
 unfoldable pub width_part : ℕ → List ℕ
-width_part width = numeral 10 width ++ cond (eqb width 1) (bytes " bit") (bytes " bits")
+width_part width = counted width (bytes " bit") (bytes " bits")
 
 -- the name, and the long name where there is one
 unfoldable pub name_part : Row → List ℕ
@@ -44,7 +48,7 @@ leaf_line number iss index =
     ++ bytes "\n"
 
 unfoldable pub leaves_part : ℕ → List ℕ
-leaves_part n = numeral 10 n ++ cond (eqb n 1) (bytes " leaf") (bytes " leaves")
+leaves_part n = counted n (bytes " leaf") (bytes " leaves")
 
 unfoldable pub set_text : ℕ → ℕ → List ℕ
 set_text number iss = leaves_part (length (leaves_of number iss)) ++ bytes ":\n" ++ below (leaf_line number iss) (length (leaves_of number iss))

@@ -1,12 +1,14 @@
-// The sets of leaves that a layout can have, told to whoever makes a value: of each leaf its place, names and width, and the values that it may have (#106).
+// The sets of leaves that a layout can have, told to whoever makes a value: of each leaf its place, names and width, and
+// the values that it may have (#106).
 #![tactic(auto)]
 
-ghost use Rattle.std.specs.Prelude.{◌<◌, ◌≤◌, length, ◌≡◌};
+ghost use Rattle.std.specs.Prelude.{◌<◌, ◌≤◌, ◌++◌, length, ◌≡◌};
+ghost use Rattle.digits.specs.Digits.{numeral};
 ghost use Rattle.buffer.specs.Appending.{Appends};
 ghost use Rattle.leaf_values.specs.Leaves.{leaves_of};
 ghost use Rattle.leaf_values.specs.Values.{leaf_row, may_be, room_of};
 ghost use Rattle.make_lines.specs.Below.{below};
-ghost use Rattle.make_lines.specs.Help.{before, is_seen, leaf_line, place_part, run_part, set_at, set_text, values_part};
+ghost use Rattle.make_lines.specs.Help.{before, counted, is_seen, leaf_line, place_part, run_part, set_at, set_text, values_part};
 ghost use Rattle.make_lines.specs.Promises.{LeavesPut, NamePut, SetsPut, WidthPut};
 
 use buffer::{put_bytes, put_text};
@@ -18,10 +20,15 @@ use records::Row;
 fn was(number: u8, iss: u64, index: usize, x: u64) -> bool
     ensures { result ≡ before (may_be number iss index) x }
 {
-    if x == 0 {
-        return false;
-    }
-    may_be(number, iss, index, x - 1)
+    x != 0 && may_be(number, iss, index, x - 1)
+}
+
+// An end of a run, after what leads to it.
+fn put_end(buf: &mut [u8], at: usize, lead: &[u8], x: u64) -> usize
+    ensures { Appends (lead.now ++ numeral 16 x) (at, buf.old) (result, buf.new) }
+{
+    let next = put_bytes(buf, at, lead);
+    put_number(buf, next, Base::Hex, x)
 }
 
 // The first of a run of values after a space, its last after a dash; what lies between says nothing.
@@ -33,14 +40,12 @@ fn put_run(buf: &mut [u8], at: usize, number: u8, iss: u64, index: usize, x: u64
         return at;
     }
     if !was(number, iss, index, x) {
-        let next = put_bytes(buf, at, b" 0x");
-        return put_number(buf, next, Base::Hex, x);
+        return put_end(buf, at, b" 0x", x);
     }
     if may_be(number, iss, index, x + 1) {
         return at;
     }
-    let next = put_bytes(buf, at, b"-0x");
-    put_number(buf, next, Base::Hex, x)
+    put_end(buf, at, b"-0x", x)
 }
 
 fn put_runs(buf: &mut [u8], at: usize, number: u8, iss: u64, index: usize, room: u64) -> usize
@@ -48,10 +53,8 @@ fn put_runs(buf: &mut [u8], at: usize, number: u8, iss: u64, index: usize, room:
     ensures { Appends (below (run_part (may_be number iss index)) room) (at, buf.old) (result, buf.new) }
 {
     let mut next = at;
-    let mut x: u64 = 0;
-    while x < room {
+    for x in 0..room {
         next = put_run(buf, next, number, iss, index, x);
-        x += 1;
     }
     next
 }
@@ -67,14 +70,21 @@ fn put_values(buf: &mut [u8], at: usize, number: u8, iss: u64, index: usize) -> 
     put_runs(buf, next, number, iss, index, room_of(row.width))
 }
 
+// A number, and the word for one of them or for several.
+fn put_counted(buf: &mut [u8], at: usize, count: u64, one: &[u8], more: &[u8]) -> usize
+    ensures { Appends (counted count one.now more.now) (at, buf.old) (result, buf.new) }
+{
+    let next = put_number(buf, at, Base::Decimal, count);
+    if count == 1 {
+        return put_bytes(buf, next, one);
+    }
+    put_bytes(buf, next, more)
+}
+
 pub fn put_width(buf: &mut [u8], at: usize, width: u8) -> usize
     ensures { WidthPut (buf.old, at, width) (result, buf.new) }
 {
-    let next = put_number(buf, at, Base::Decimal, width as u64);
-    if width == 1 {
-        return put_bytes(buf, next, b" bit");
-    }
-    put_bytes(buf, next, b" bits")
+    put_counted(buf, at, width as u64, b" bit", b" bits")
 }
 
 // The name, and the long name where there is one.
@@ -119,10 +129,8 @@ fn put_leaves(buf: &mut [u8], at: usize, number: u8, iss: u64, count: usize) -> 
     ensures { Appends (below (leaf_line number iss) count) (at, buf.old) (result, buf.new) }
 {
     let mut next = at;
-    let mut i: usize = 0;
-    while i < count {
+    for i in 0..count {
         next = put_leaf(buf, next, number, iss, i);
-        i += 1;
     }
     next
 }
@@ -131,11 +139,7 @@ fn put_leaves(buf: &mut [u8], at: usize, number: u8, iss: u64, count: usize) -> 
 pub fn put_leaf_count(buf: &mut [u8], at: usize, count: u64) -> usize
     ensures { LeavesPut (buf.old, at, count) (result, buf.new) }
 {
-    let next = put_number(buf, at, Base::Decimal, count);
-    if count == 1 {
-        return put_bytes(buf, next, b" leaf");
-    }
-    put_bytes(buf, next, b" leaves")
+    put_counted(buf, at, count, b" leaf", b" leaves")
 }
 
 fn put_set(buf: &mut [u8], at: usize, number: u8, iss: u64) -> usize
@@ -151,14 +155,7 @@ fn put_set(buf: &mut [u8], at: usize, number: u8, iss: u64) -> usize
 fn is_seen(number: u8, k: usize) -> bool
     ensures { result ≡ is_seen number k }
 {
-    let mut j: usize = 0;
-    while j < k {
-        if same_leaves(number, outcome(j), outcome(k)) {
-            return true;
-        }
-        j += 1;
-    }
-    false
+    (0..k).any(|j| same_leaves(number, outcome(j), outcome(k)))
 }
 
 fn put_set_at(buf: &mut [u8], at: usize, number: u8, k: usize) -> usize
@@ -175,10 +172,8 @@ pub fn put_sets(buf: &mut [u8], at: usize, number: u8) -> usize
     ensures { SetsPut (buf.old, at, number) (result, buf.new) }
 {
     let mut next = at;
-    let mut k: usize = 0;
-    while k < SETS {
+    for k in 0..SETS {
         next = put_set_at(buf, next, number, k);
-        k += 1;
     }
     next
 }

@@ -16,31 +16,17 @@ use records::Row;
 // No set has more leaves.
 const MOST: u64 = 14;
 
-// Whether a set of the layout has so many leaves.
+// Whether a set of the layout has so many leaves; or, below, fewer. No plainer as one function: one call each.
 fn has_count(number: u8, n: u64) -> bool
     ensures { result ≡ has_count number n }
 {
-    let mut k: usize = 0;
-    while k < SETS {
-        if leaf_count(number, outcome(k)) as u64 == n {
-            return true;
-        }
-        k += 1;
-    }
-    false
+    (0..SETS).any(|k| leaf_count(number, outcome(k)) as u64 == n)
 }
 
 fn has_fewer(number: u8, n: u64) -> bool
     ensures { result ≡ has_fewer number n }
 {
-    let mut k: usize = 0;
-    while k < SETS {
-        if (leaf_count(number, outcome(k)) as u64) < n {
-            return true;
-        }
-        k += 1;
-    }
-    false
+    (0..SETS).any(|k| (leaf_count(number, outcome(k)) as u64) < n)
 }
 
 fn put_count(buf: &mut [u8], at: usize, number: u8, n: u64) -> usize
@@ -61,10 +47,8 @@ fn put_counts(buf: &mut [u8], at: usize, number: u8) -> usize
     ensures { Appends (counts_part number) (at, buf.old) (result, buf.new) }
 {
     let mut next = at;
-    let mut n: u64 = 0;
-    while n <= MOST {
+    for n in 0..=MOST {
         next = put_count(buf, next, number, n);
-        n += 1;
     }
     next
 }
@@ -124,19 +108,16 @@ fn put_wide_leaf(buf: &mut [u8], at: usize, index: usize, row: Row, x: u64) -> u
     put_wider(buf, next, x, row.width)
 }
 
-// The index of the first leaf that is too wide, or how many there are.
+// The index of the first leaf that is too wide, or how many there are: kept as a number, which `first_wide` of specs/ is.
 fn first_wide(number: u8, iss: u64, leaves: &[u64]) -> usize
     ensures { result ≡ first_wide number iss leaves.now 0 (length leaves.now) }
 {
-    let mut i: usize = 0;
-    while i < leaves.len() {
-        let row = leaf_row(number, iss, i);
-        if is_wide(leaves[i], row.width) {
+    for (i, leaf) in leaves.iter().enumerate() {
+        if is_wide(*leaf, leaf_row(number, iss, i).width) {
             return i;
         }
-        i += 1;
     }
-    i
+    leaves.len()
 }
 
 fn put_wide_at(

@@ -1,40 +1,42 @@
 -- What the definitions give under the tests that the code made.
 use Prim.Native.Nat.{ℕ}
 use mathlib.Core.List.{List, ◌++◌}
-use mathlib.Core.Path.{◌≡◌}
+use mathlib.Core.Path.{◌≡◌, ap}
 use lib.ListN.{length}
 use borrow.Author.Tests.{eq-eqb, ne_eqb}
 use Rattle.digits.specs.Digits.{numeral}
-use Rattle.layout_sets.specs.Outcomes.{outcome_of}
+use Rattle.layout_sets.specs.Outcomes.{outcome_of, sets}
 use Rattle.layouts.specs.Layouts.{empty, layout_number}
 use Rattle.make_lines.specs.Help.{sets_text}
 use Rattle.make_reasons.specs.Reasons.{no_layout, too_wide}
-use Rattle.make_reply.specs.Replies.{help_text, make_text, reason_line}
-use Rattle.maker.specs.declared.Made.{Made}
-use Rattle.refusals.specs.Refusals.{carrying, refusal_number}
-use Rattle.refusals.specs.declared.Reason.TheVariants.{InvalidEc}
-use Rattle.reply_lines.specs.Lines.{number_line, refusal_line}
+use Rattle.make_reply.specs.Replies.{help_text, reason_line, unmade}
+use Rattle.refusals.specs.Refusals.{carrying, reason_number, refusal_number}
+use Rattle.refusals.specs.declared.Refusal.{Refusal}
+use Rattle.refusals.proofs.Theorems.{one-reason}
+use Rattle.std.specs.Prelude.{Option, unwrap_or}
+use lib.Dec.{eqb}
+use Rattle.refusals.specs.declared.Reason.TheVariants.{InvalidEc, NoLayout, WideLeaf}
+use Rattle.reply_lines.specs.Lines.{refusal_line}
 use Rattle.texts.specs.Pool.{bytes, description_of}
 use Rattle.texts.specs.Rules.{class_name}
 
-module _ (class il iss2 : ℕ) (leaves : List ℕ) (m : Made) (k n : ℕ) (is : n ≡ refusal_number m.refusal) where
-  pub said-value : n ≡ 0 → make_text class il iss2 leaves m k ≡ number_line (bytes "0x") 16 m.value
-  unfolding make_text
-  said-value h = rw (← is, eq-eqb n 0 h)
+module _ (class il iss2 : ℕ) (leaves : List ℕ) (f : Refusal) (k : Option ℕ) where
+  pub said-layout : f.reason ≡ NoLayout → unmade class il iss2 leaves f k ≡ reason_line f (no_layout class (layout_number class) (length leaves))
+  unfolding unmade
+  said-layout h = rw (eq-eqb (refusal_number f) 21 (ap reason_number h))
 
-  module _ (a : n ≡ 0 → ⊥) where
-    pub said-layout : n ≡ 21 → make_text class il iss2 leaves m k ≡ reason_line m.refusal (no_layout class (layout_number class) (length leaves))
-    unfolding make_text
-    said-layout h = rw (← is, ne_eqb n 0 a, eq-eqb n 21 h)
+  pub said_wide : f.reason ≡ WideLeaf
+      → unmade class il iss2 leaves f k ≡ reason_line f (too_wide il iss2 (layout_number class) (outcome_of (unwrap_or k sets)) leaves)
+  unfolding unmade
+  said_wide h = rw (ap (λ (n : ℕ). eqb n 21) (ap reason_number h), ap (λ (n : ℕ). eqb n 22) (ap reason_number h))
 
-    module _ (b : n ≡ 21 → ⊥) where
-      pub said_wide : n ≡ 22 → make_text class il iss2 leaves m k ≡ reason_line m.refusal (too_wide il iss2 (layout_number class) (outcome_of k) leaves)
-      unfolding make_text
-      said_wide h = rw (← is, ne_eqb n 0 a, ne_eqb n 21 b, eq-eqb n 22 h)
-
-      pub said-other : (n ≡ 22 → ⊥) → make_text class il iss2 leaves m k ≡ refusal_line m.refusal
-      unfolding make_text
-      said-other h = rw (← is, ne_eqb n 0 a, ne_eqb n 21 b, ne_eqb n 22 h)
+  pub said-other : (f.reason ≡ NoLayout → ⊥) → (f.reason ≡ WideLeaf → ⊥) → unmade class il iss2 leaves f k ≡ refusal_line f
+  unfolding unmade
+  said-other a b =
+      rw (
+        ne_eqb (refusal_number f) 21 (λ e. a (one-reason f.reason NoLayout e)),
+        ne_eqb (refusal_number f) 22 (λ e. b (one-reason f.reason WideLeaf e)),
+      )
 
 module _ (class n : ℕ) (is : n ≡ layout_number class) where
   pub help_refused : n ≡ empty → help_text class ≡ refusal_line (carrying InvalidEc class)

@@ -1,15 +1,14 @@
 -- What each public function promises: of what comes in and what the buffer holds before, the next offset and what the buffer holds after.
-use Rattle.std.specs.Prelude.{ℕ, List}
+use Rattle.std.specs.Prelude.{ℕ, List, Option, Result}
 use Rattle.buffer.specs.Appending.{Appends}
 use Rattle.make_reply.specs.Replies.{bad_number, help_text, make_text, too_few}
 use Rattle.maker.specs.Promises.{Fitting, Makes}
-use Rattle.maker.specs.declared.Made.{Made}
 use Rattle.refusals.specs.declared.Refusal.{Refusal}
 
 -- what the maker promises, said
 pub record Said (class il iss2 : ℕ) (leaves : List ℕ) (from : ℕ × List ℕ) (out : ℕ × List ℕ) : Type 0 where
-  pub made : Made
-  pub index : ℕ
+  pub made : Result ℕ Refusal
+  pub index : Option ℕ
   pub makes : Makes (class, il, iss2, leaves) made
   pub fits : Fitting (class, leaves) index
   pub puts : Appends (make_text class il iss2 leaves made index) from out

@@ -1,11 +1,10 @@
 -- `esr make`: what is said of a class, an IL, an ISS2 and leaf values, and of a class whose leaves are asked for, byte for byte (#106).
-use Rattle.std.specs.Prelude.{ℕ, cond, List, ◌++◌, eqb, length}
+use Rattle.std.specs.Prelude.{ℕ, cond, List, ◌++◌, eqb, length, Option, Result, Ok, Err, unwrap_or}
 use Rattle.digits.specs.Digits.{numeral}
-use Rattle.layout_sets.specs.Outcomes.{outcome_of}
+use Rattle.layout_sets.specs.Outcomes.{outcome_of, sets}
 use Rattle.layouts.specs.Layouts.{empty, layout_number}
 use Rattle.make_lines.specs.Help.{sets_text}
 use Rattle.make_reasons.specs.Reasons.{no_layout, too_wide}
-use Rattle.maker.specs.declared.Made.{Made}
 use Rattle.refusals.specs.Refusals.{carrying, refusal_number}
 use Rattle.refusals.specs.declared.Reason.TheVariants.{InvalidEc}
 use Rattle.refusals.specs.declared.Refusal.{Refusal}
@@ -17,16 +16,19 @@ use Rattle.texts.specs.Rules.{class_name}
 unfoldable pub reason_line : Refusal → List ℕ → List ℕ
 reason_line f reason = refused_by f ++ bytes ": " ++ reason ++ bytes "\n"
 
--- The value, 0xH; or the refusal and why. What was made is m; the set that fits the leaves is that of outcome k.
-unfoldable pub make_text : ℕ → ℕ → ℕ → List ℕ → Made → ℕ → List ℕ
-make_text class il iss2 leaves m k =
-    cond (eqb (refusal_number m.refusal) 0)
-    (number_line (bytes "0x") 16 m.value)
-    (cond (eqb (refusal_number m.refusal) 21)
-    (reason_line m.refusal (no_layout class (layout_number class) (length leaves)))
-    (cond (eqb (refusal_number m.refusal) 22)
-    (reason_line m.refusal (too_wide il iss2 (layout_number class) (outcome_of k) leaves))
-    (refusal_line m.refusal)))
+-- The refusal and why; the set that fits the leaves is that of an outcome, where one fits.
+unfoldable pub unmade : ℕ → ℕ → ℕ → List ℕ → Refusal → Option ℕ → List ℕ
+unmade class il iss2 leaves f k =
+    cond (eqb (refusal_number f) 21)
+    (reason_line f (no_layout class (layout_number class) (length leaves)))
+    (cond (eqb (refusal_number f) 22)
+    (reason_line f (too_wide il iss2 (layout_number class) (outcome_of (unwrap_or k sets)) leaves))
+    (refusal_line f))
+
+-- The value, 0xH; or the refusal and why.
+abbrev pub make_text : ℕ → ℕ → ℕ → List ℕ → Result ℕ Refusal → Option ℕ → List ℕ
+make_text class il iss2 leaves (Ok v) k = number_line (bytes "0x") 16 v
+make_text class il iss2 leaves (Err f) k = unmade class il iss2 leaves f k
 
 -- the class and its text, what comes before the leaves, and the sets of leaves; a class that no layout serves is refused as decoding refuses it
 unfoldable pub help_text : ℕ → List ℕ

@@ -1,10 +1,10 @@
-// What `esr make` says, byte for byte, in a lent buffer from an offset on: the value that was made, or why there is none; the sets of leaves of a class; and
-// of numbers that cannot be read or are too few (#106).
+// What `esr make` says, byte for byte, in a lent buffer from an offset on: the value that was made, or why there is none;
+// the sets of leaves of a class; and of numbers that cannot be read or are too few (#106).
 #![tactic(auto)]
 
 ghost use Rattle.buffer.specs.Appending.{Appends};
 ghost use Rattle.make_reply.specs.Promises.{BadNumber, HelpReply, MakeReply, TooFew};
-ghost use Rattle.make_reply.specs.Replies.{reason_line};
+ghost use Rattle.make_reply.specs.Replies.{reason_line, unmade};
 ghost use Rattle.make_reasons.specs.Reasons.{no_layout, too_wide};
 ghost use Rattle.layouts.specs.Layouts.{layout_number};
 ghost use Rattle.texts.specs.Pool.{bytes, description_of};
@@ -17,11 +17,6 @@ use make_reasons::{put_no_layout, put_too_wide};
 use refusals::{Reason, Refusal};
 use reply_lines::{put_number_line, put_refusal, put_refused, put_why};
 use texts::rules;
-
-// The refusals that have words of the class's own leaves.
-const NO_LAYOUT: u8 = 21;
-
-const WIDE_LEAF: u8 = 22;
 
 fn put_no_layout_line(
     buf: &mut [u8],
@@ -56,6 +51,29 @@ fn put_wide_line(
     put_bytes(buf, next, b"\n")
 }
 
+// Why nothing was made: of two reasons in words of the class's own leaves, by the set that fits them.
+fn put_unmade(
+    buf: &mut [u8],
+    at: usize,
+    class: u64,
+    il: u64,
+    iss2: u64,
+    leaves: &[u64],
+    index: Option<usize>,
+    refusal: Refusal,
+) -> usize
+    ensures { Appends (unmade class il iss2 leaves.now refusal index) (at, buf.old) (result, buf.new) }
+{
+    match refusal.reason {
+        Reason::NoLayout => put_no_layout_line(buf, at, refusal, class, leaves.len()),
+        Reason::WideLeaf => {
+            let iss = layout_sets::outcome(index.unwrap_or(layout_sets::SETS));
+            put_wide_line(buf, at, refusal, class, il, iss2, iss, leaves)
+        }
+        _ => put_refusal(buf, at, refusal),
+    }
+}
+
 pub fn put_make_reply(
     buf: &mut [u8],
     at: usize,
@@ -66,21 +84,11 @@ pub fn put_make_reply(
 ) -> usize
     ensures { MakeReply (buf.old, at, class, il, iss2, leaves.now) (result, buf.new) }
 {
-    let made = maker::make(class, il, iss2, leaves);
     let index = maker::fitting(class, leaves);
-    let refusal = made.refusal;
-    let number = refusal.number();
-    if number == 0 {
-        return put_number_line(buf, at, b"0x", Base::Hex, made.value);
+    match maker::make(class, il, iss2, leaves) {
+        Ok(value) => put_number_line(buf, at, b"0x", Base::Hex, value),
+        Err(refusal) => put_unmade(buf, at, class, il, iss2, leaves, index, refusal),
     }
-    if number == NO_LAYOUT {
-        return put_no_layout_line(buf, at, refusal, class, leaves.len());
-    }
-    if number == WIDE_LEAF {
-        let iss = layout_sets::outcome(index);
-        return put_wide_line(buf, at, refusal, class, il, iss2, iss, leaves);
-    }
-    put_refusal(buf, at, refusal)
 }
 
 fn put_class_text(buf: &mut [u8], at: usize, class: u64) -> usize

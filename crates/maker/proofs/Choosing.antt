@@ -1,5 +1,6 @@
 -- What is chosen is chosen alone, since at most one set of rows fits; and an outcome that the leaves tell is the one whose rows fit.
-use Rattle.std.proofs.Common.{◌≡◌, ℕ, zero, suc, ◌%◌, ◌^◌, ◌<◌, ◌≤◌, Bool, true, false, cond, ◌&&◌, T, eqb, ltb, List, [], ◌∷◌, length, get_or, take, sym, refl, ap, ◌∙◌, subst, ap₂, not-suc-le-zero, mod-eq_of_lt, arith, eqb→eq, length-take-le, get_or-take, ltb-false, ltb-true, le-ltb, lt-ltb, eq-eqb, ne_eqb}
+use Rattle.std.proofs.Common.{◌≡◌, ℕ, zero, suc, ◌%◌, ◌^◌, ◌<◌, ◌≤◌, Bool, true, false, true≢false, Option, Some, None, cond, ◌&&◌, T, eqb, ltb, List, [], ◌∷◌, length, get_or, sym, refl, ap, ◌∙◌, subst, ap₂, not-suc-le-zero, mod-eq_of_lt, arith, eqb→eq, ltb-false, ltb-true, le-ltb, lt-ltb, eq-eqb}
+use Rattle.std.specs.Prelude.{MatchOption}
 use Rattle.promise.proofs.Tests.{both_left, both_right, is_true}
 use Rattle.refusals.specs.Refusals.{bare}
 use Rattle.refusals.specs.declared.Reason.TheVariants.{WideLeaf}
@@ -15,10 +16,9 @@ use Rattle.layout_sets.specs.Outcomes.{sets, outcome_of, index_of}
 use Rattle.layout_sets.proofs.Fitting.{regular, regular-table, regular-msr, one-fits}
 use Rattle.layout_sets.proofs.Outcomes.{set_at, index_less}
 use Rattle.esr.proofs.Laws.{past-empty}
-use Rattle.maker.specs.Laid.{rows_at, Laid, Long, Low, Bounded, tells_at, FitsAt, one, none}
+use Rattle.maker.specs.Laid.{rows_at, Low, Bounded, tells_at, FitsAt, one, none}
 use Rattle.maker.specs.Making.{Choice, no_class, no_layout, chosen, Chooses, unserved, unfit, fit, table_for, in_widths, value_of, nothing, judged, made_at}
 use Rattle.maker.specs.Promises.{index_for, Fitting}
-use Rattle.maker.specs.declared.LeafRows.{LeafRows}
 use Rattle.maker.proofs.Packing.{First, first, packed_less}
 
 pub number-regular : (n : ℕ) → T (regular (table_of n))
@@ -42,14 +42,14 @@ module _ (number : ℕ) (leaves : List ℕ) where
   knows : T (knows_lines tests (table_of number).lines)
   knows = both_left (knows_lines tests (table_of number).lines) _ (number-regular number)
 
-  pub told-fits : (index : ℕ) → index < sets → tells_at number index leaves ≡ true → FitsAt number leaves index
+  pub told-fits : (index : ℕ) → index < sets → tells_at number index leaves ≡ true → FitsAt number leaves (Some index)
   unfolding tells_at
   told-fits index less told =
       let rows : List Row = rows_for (table_of number) (outcome_of index) in
       let t : T (eqb (length (rows_at number index)) (length leaves) && eqb (index_of (answers (rows_at number index) leaves)) index) = is_true told in
       let m : length (rows_at number index) ≡ length leaves = eqb→eq _ _ (both_left (eqb (length (rows_at number index)) (length leaves)) _ t) in
       let i : index_of (answers (rows_at number index) leaves) ≡ index = eqb→eq _ _ (both_right (eqb (length (rows_at number index)) (length leaves)) _ t) in
-      one less
+      one index less
       (record {
         many = m;
         conditions = sym (set_at (rows_at number index) leaves (table_of number) knows ∙ ap (λ (k : ℕ). rows_for (table_of number) (outcome_of k)) i);
@@ -66,6 +66,15 @@ module _ (number : ℕ) (leaves : List ℕ) where
       (subst (λ (zs : List Row). eqb (length (leaf_rows t zs)) (length leaves) && eqb (index_of (answers (leaf_rows t zs) leaves)) k ≡ true) e
       (ap₂ ◌&&◌ (eq-eqb (length (leaf_rows t rows)) (length leaves) f.many) (eq-eqb k k refl)))
 
+  -- what a search for such an outcome finds
+  pub found_fits : (r : Option ℕ)
+      → MatchOption r ((k : ℕ) → 0 ≤ k → k < sets → tells_at number k leaves ≡ true → ⊥)
+      (λ (i : ℕ). (0 ≤ i) × (i < sets) × (tells_at number i leaves ≡ true)
+      × ((k : ℕ) → 0 ≤ k → k < i → tells_at number k leaves ≡ true → ⊥))
+      → FitsAt number leaves r
+  found_fits None h = none (untold (λ j l. h j (omega arith) l))
+  found_fits (Some i) h = told-fits i h.1 h.2
+
 -- The rows of the leaves leave no gap.
 
 pub leaf-tiles : (t : Table) (rows : List Row) → T (tiled rows) → T (tiles 25 (leaf_rows t rows))
@@ -79,50 +88,29 @@ fit-tiles number leaves rows f =
     subst (λ (zs : List Row). T (tiles 25 (leaf_rows t zs))) (sym (f.conditions ∙ set_at (leaf_rows t rows) leaves t (knows number leaves)))
     (leaf-tiles t (rows_for t (outcome_of k)) (number-sound number (outcome_of k)).tile)
 
--- The rows in the array.
+-- The rows at an outcome start within ISS, and leaves in their widths fit it.
 
-module _ (number index : ℕ) (set : LeafRows) (laid : Laid number index set) where
-  pub laid-length : length (rows_at number index) ≡ set.count
-  laid-length = ap length (sym laid.rows) ∙ length-take-le set.count set.rows (omega (arith, laid.few, laid.long))
+module _ (number index : ℕ) where
+  tiles_at : T (tiles 25 (rows_at number index))
+  tiles_at =
+      leaf-tiles (table_of number) (rows_for (table_of number) (outcome_of index))
+      (number-sound number (outcome_of index)).tile
 
-  -- whether the leaves tell this outcome, by the count and by the index that they tell
-  module _ (leaves : List ℕ) where
-    pub untold-by : (set.count ≡ length leaves → ⊥) → false ≡ tells_at number index leaves
-    unfolding tells_at
-    untold-by h =
-        ap (λ (b : Bool). b && eqb (index_of (answers (rows_at number index) leaves)) index)
-        (sym (ne_eqb (length (rows_at number index)) (length leaves) (λ e. h (sym laid-length ∙ e))))
+  pub low_at : Low (rows_at number index)
+  low_at i h =
+      let b : (get_or (rows_at number index) i pad).start ≤ 25 = below 25 (rows_at number index) tiles_at i h in
+      omega (arith, b)
+    where
+      below : (top : ℕ) (rows : List Row) → T (tiles top rows) → (i : ℕ) → i < length rows
+          → (get_or rows i pad).start ≤ top
+      below top [] t i h = absurd (not-suc-le-zero h)
+      below top (r ∷ rs) t zero h = let f : First top r rs = first top r rs t in omega (arith, f.end)
+      below top (r ∷ rs) t (suc i) h =
+          let f : First top r rs = first top r rs t in
+          omega (arith, f.end, below r.start rs f.rest i (omega arith))
 
-    pub told-by : set.count ≡ length leaves → (k : ℕ) → k ≡ index_of (answers (take set.count set.rows) leaves) → eqb k index ≡ tells_at number index leaves
-    unfolding tells_at
-    told-by e k is =
-        ap (λ (m : ℕ). eqb m index) (is ∙ ap (λ (rs : List Row). index_of (answers rs leaves)) laid.rows)
-        ∙ ap (λ (b : Bool). b && eqb (index_of (answers (rows_at number index) leaves)) index)
-        (sym (eq-eqb (length (rows_at number index)) (length leaves) (laid-length ∙ e)))
-
-  laid-tiles : T (tiles 25 (take set.count set.rows))
-  laid-tiles = subst (λ (rs : List Row). T (tiles 25 rs)) (sym laid.rows) (leaf-tiles (table_of number) (rows_for (table_of number) (outcome_of index)) (number-sound number (outcome_of index)).tile)
-
-  module _ (leaves : List ℕ) (many : length (rows_at number index) ≡ length leaves) where
-    pub laid-many : Long set leaves
-    laid-many = record { few = laid.few; many = sym laid-length ∙ many }
-
-    pub laid-low : Low set leaves
-    laid-low i h =
-        let n : set.count ≡ length leaves = sym laid-length ∙ many in
-        let l : length (take set.count set.rows) ≡ set.count = length-take-le set.count set.rows (omega (arith, laid.few, laid.long)) in
-        let b : (get_or (take set.count set.rows) i pad).start ≤ 25 = below 25 (take set.count set.rows) laid-tiles i (omega arith) in
-        omega (arith, ap (λ (r : Row). r.start) (get_or-take set.count set.rows i pad (omega arith)))
-      where
-        below : (top : ℕ) (rows : List Row) → T (tiles top rows) → (i : ℕ) → i < length rows → (get_or rows i pad).start ≤ top
-        below top [] t i h = absurd (not-suc-le-zero h)
-        below top (r ∷ rs) t zero h = let f : First top r rs = first top r rs t in omega (arith, f.end)
-        below top (r ∷ rs) t (suc i) h =
-            let f : First top r rs = first top r rs t in
-            omega (arith, f.end, below r.start rs f.rest i (omega arith))
-
-    pub laid_bounded : Bounded set leaves
-    laid_bounded w = packed_less 25 (take set.count set.rows) leaves laid-tiles (is_true w)
+  pub bounded_at : (leaves : List ℕ) → Bounded (rows_at number index) leaves
+  bounded_at leaves w = packed_less 25 (rows_at number index) leaves tiles_at (is_true w)
 
 -- a class that is served is one of six bits
 pub served_less : (class number : ℕ) → number ≡ layout_number class → (number ≡ empty → ⊥) → class < 64
@@ -163,37 +151,49 @@ module _ (class : ℕ) (leaves : List ℕ) (number : ℕ) (n : number ≡ layout
     served : layout_number class ≡ empty → ⊥
     served e = h (n ∙ e)
 
-    pub fitting-is : (r : ℕ) → FitsAt number leaves r → Fitting (class, leaves) r
+    pub fitting-is : (r : Option ℕ) → FitsAt number leaves r → Fitting (class, leaves) r
     fitting-is r f = by (subst (λ (k : ℕ). FitsAt k leaves r) n f)
       where
-        by : FitsAt (layout_number class) leaves r → Fitting (class, leaves) r
-        by (one less fits i) = (chosen (rows_for (table_for class) (outcome_of r)), fit served (rows_for (table_for class) (outcome_of r)) fits, i)
-        by (none e never) = (no_layout, unfit served never, e)
+        by : {r : Option ℕ} → FitsAt (layout_number class) leaves r → Fitting (class, leaves) r
+        by (one k less fits i) =
+            let rows = rows_for (table_for class) (outcome_of k) in
+            (chosen rows, fit served rows fits, ap (λ (j : ℕ). Some j) i)
+        by (none never) = (no_layout, unfit served never, refl)
 
-    pub choose_unfit : FitsAt number leaves sets → Chooses class leaves no_layout
-    choose_unfit f = by (subst (λ (k : ℕ). FitsAt k leaves sets) n f)
+    pub choose_unfit : FitsAt number leaves None → Chooses class leaves no_layout
+    choose_unfit f = by (subst (λ (k : ℕ). FitsAt k leaves None) n f)
       where
-        by : FitsAt (layout_number class) leaves sets → Chooses class leaves no_layout
-        by (one less fits i) = absurd (omega arith)
-        by (none e never) = unfit served never
+        by : FitsAt (layout_number class) leaves None → Chooses class leaves no_layout
+        by (none never) = unfit served never
 
-    pub fits-is : (r : ℕ) → (r ≡ sets → ⊥) → FitsAt number leaves r → Fits (table_of number) leaves (rows_for (table_of number) (outcome_of r))
-    fits-is r ne (one less fits i) = fits
-    fits-is r ne (none e never) = absurd (ne e)
+    pub fits-is : (r : ℕ) → FitsAt number leaves (Some r)
+        → Fits (table_of number) leaves (rows_for (table_of number) (outcome_of r))
+    fits-is r (one k less fits i) = fits
 
     pub choose_fit : (rows : List Row) → Fits (table_of number) leaves rows → Chooses class leaves (chosen rows)
     choose_fit rows f = fit served rows (subst (λ (k : ℕ). Fits (table_of k) leaves rows) n f)
 
 -- The rows at the index that is answered are those that fit.
-pub fitting-rows : (class : ℕ) (leaves : List ℕ) (r : ℕ) → Fitting (class, leaves) r → r < sets → Fits (table_for class) leaves (rows_for (table_for class) (outcome_of r))
-fitting-rows class leaves r p less = by p.1 p.2
+
+abbrev is_some : Option ℕ → Bool
+is_some None = false
+is_some (Some k) = true
+
+abbrev index_in : Option ℕ → ℕ
+index_in None = sets
+index_in (Some k) = k
+
+pub fitting-rows : (class : ℕ) (leaves : List ℕ) (r : ℕ) → Fitting (class, leaves) (Some r)
+    → Fits (table_for class) leaves (rows_for (table_for class) (outcome_of r))
+fitting-rows class leaves r p = by p.1 p.2
   where
-    by : {c : Choice} → Chooses class leaves c → r ≡ index_for class leaves c → Fits (table_for class) leaves (rows_for (table_for class) (outcome_of r))
-    by (unserved n) e = absurd (omega arith)
-    by (unfit n never) e = absurd (omega arith)
+    by : {c : Choice} → Chooses class leaves c → Some r ≡ index_for class leaves c
+        → Fits (table_for class) leaves (rows_for (table_for class) (outcome_of r))
+    by (unserved n) e = absurd (true≢false (ap is_some e))
+    by (unfit n never) e = absurd (true≢false (ap is_some e))
     by (fit n rows f) e =
         subst (λ (zs : List Row). Fits (table_for class) leaves zs)
         (f.conditions
         ∙ set_at (leaf_rows (table_for class) rows) leaves (table_for class) (knows (layout_number class) leaves)
-        ∙ ap (λ (k : ℕ). rows_for (table_for class) (outcome_of k)) (sym e))
+        ∙ ap (λ (k : ℕ). rows_for (table_for class) (outcome_of k)) (sym (ap index_in e)))
         f

@@ -1,98 +1,71 @@
--- The loops of the code turn by turn: what is left of the rows and of the leaves begins with the next row and the next leaf.
-use Rattle.std.proofs.Common.{◌≡◌, ℕ, ◌+◌, ◌*◌, ◌%◌, ◌^◌, ◌<◌, ◌≤◌, Bool, true, false, cond, ◌&&◌, ltb, List, [], ◌∷◌, length, get_or, take, drop, sym, refl, ap, ◌∙◌, subst, ap₂, add-zero, add_assoc, mod-eq_of_lt, div-one, add-one, arith, length-take-le, drop-cons, get_or-take, ltb-false, ltb-true, le-ltb, lt-ltb}
+-- The loops turn by turn: of rows and leaves side by side either one ends, or both have a next; and the test of a width.
+use Rattle.std.proofs.Common.{◌≡◌, ◌⊎◌, inl, inr, ℕ, suc, ◌+◌, ◌*◌, ◌%◌, ◌^◌, ◌<◌, Bool, true, false, ◌&&◌, eqb, ltb, List, [], ◌∷◌, sym, ap, ◌∙◌, subst, ap₂, refl, add-zero, add_assoc, mod-eq_of_lt, div-one, arith, ltb-false, ltb-true, eq-eqb, ne_eqb}
 use native.Mathlib.Nat.{add-mod-mod, mod-add-mod}
-use lib.Seq.{drop-length}
+use Rattle.std.specs.List.{list_all, zip}
 use Rattle.records.specs.Bits.{field_of}
 use Rattle.records.specs.declared.Row.{Row}
 use Rattle.records.proofs.Laws.{field_lt}
-use Rattle.layouts.specs.Layouts.{pad}
-use Rattle.layout_sets.specs.Fitting.{is_row, leaf_at}
+use Rattle.layout_sets.specs.Fitting.{leaf_at}
+use Rattle.maker.specs.Laid.{Low}
 use Rattle.maker.specs.Making.{in_widths, packed}
 
 -- A number fits a width if its lowest bits, so many, are all of it.
-
-pub width_fits : (x w : ℕ) → field_of x 0 w ≡ x → x < 2 ^ w
-width_fits x w e = subst (λ n. n < 2 ^ w) e (field_lt x 0 w)
 
 field-whole : (x w : ℕ) → x < 2 ^ w → field_of x 0 w ≡ x
 unfolding field_of
 field-whole x w h = ap (λ n. n % 2 ^ w) (div-one x) ∙ mod-eq_of_lt h
 
-pub width_not : (x w : ℕ) → (field_of x 0 w ≡ x → ⊥) → 2 ^ w ≤ x
-width_not x w h = by (ltb x (2 ^ w)) refl
+width_fits : (x w : ℕ) → field_of x 0 w ≡ x → x < 2 ^ w
+width_fits x w e = subst (λ n. n < 2 ^ w) e (field_lt x 0 w)
+
+width-test : (x w : ℕ) → eqb (field_of x 0 w) x ≡ ltb x (2 ^ w)
+width-test x w = by (ltb x (2 ^ w)) refl
   where
-    by : (b : Bool) → ltb x (2 ^ w) ≡ b → 2 ^ w ≤ x
-    by true e = absurd (h (field-whole x w (ltb-true x (2 ^ w) e)))
-    by false e = ltb-false x (2 ^ w) e
+    by : (b : Bool) → ltb x (2 ^ w) ≡ b → eqb (field_of x 0 w) x ≡ ltb x (2 ^ w)
+    by true e = eq-eqb (field_of x 0 w) x (field-whole x w (ltb-true x (2 ^ w) e)) ∙ sym e
+    by false e =
+        ne_eqb (field_of x 0 w) x (λ f. absurd (omega (arith, width_fits x w f, ltb-false x (2 ^ w) e))) ∙ sym e
 
--- Rows and leaves.
+abbrev pub fits_width : Row × ℕ → Bool
+fits_width p = eqb (field_of p.1 0 p.0.width) p.1
 
-module _ (rows : List Row) (leaves : List ℕ) (n : ℕ) (many : n ≡ length leaves) (room : n ≤ length rows) where
-  -- the end
-  rows_end : drop (length leaves) (take n rows) ≡ []
-  rows_end =
-      ap (λ (k : ℕ). drop k (take n rows)) (sym many ∙ sym (length-take-le n rows room)) ∙ drop-length (take n rows)
+pub widths-all : (rows : List Row) (leaves : List ℕ) → list_all fits_width (zip rows leaves) ≡ in_widths rows leaves
+unfolding in_widths
+widths-all [] xs = refl
+widths-all (r ∷ rs) [] = refl
+widths-all (r ∷ rs) (x ∷ xs) = ap₂ ◌&&◌ (width-test x r.width) (widths-all rs xs)
 
-  leaves-end : drop (length leaves) leaves ≡ []
-  leaves-end = drop-length leaves
+-- The end.
 
-  module _ (i : ℕ) (done : i ≡ length leaves) where
-    pub leaf-end : (s w : ℕ) → leaf_at (drop i (take n rows)) (drop i leaves) s w ≡ 0
-    leaf-end s w = ap (λ k. leaf_at (drop k (take n rows)) (drop k leaves) s w) done ∙ ap₂ (λ rs xs. leaf_at rs xs s w) rows_end leaves-end
+pub no_leaf : (rows : List Row) (leaves : List ℕ) (s w : ℕ) → (rows ≡ []) ⊎ (leaves ≡ []) → leaf_at rows leaves s w ≡ 0
+no_leaf rows leaves s w (inl e) = ap (λ (rs : List Row). leaf_at rs leaves s w) e
+no_leaf [] leaves s w (inr e) = refl
+no_leaf (r ∷ rs) leaves s w (inr e) = ap (λ (xs : List ℕ). leaf_at (r ∷ rs) xs s w) e
 
-    pub width-end : in_widths (drop i (take n rows)) (drop i leaves) ≡ true
-    unfolding in_widths
-    width-end = ap (λ k. in_widths (drop k (take n rows)) (drop k leaves)) done ∙ ap₂ in_widths rows_end leaves-end
+none_packed : (rows : List Row) (leaves : List ℕ) → (rows ≡ []) ⊎ (leaves ≡ []) → packed rows leaves ≡ 0
+unfolding packed
+none_packed rows leaves (inl e) = ap (λ (rs : List Row). packed rs leaves) e
+none_packed [] leaves (inr e) = refl
+none_packed (r ∷ rs) leaves (inr e) = ap (packed (r ∷ rs)) e
 
-    pub pack_end : (sum : ℕ) → sum < 2 ^ 64 → (sum + packed (drop i (take n rows)) (drop i leaves)) % 2 ^ 64 ≡ sum
-    unfolding packed
-    pack_end sum small =
-        ap (λ k. (sum + k) % 2 ^ 64) (ap (λ k. packed (drop k (take n rows)) (drop k leaves)) done ∙ ap₂ packed rows_end leaves-end)
-        ∙ ap (λ k. k % 2 ^ 64) (add-zero sum)
-        ∙ mod-eq_of_lt small
+pub pack_end : (rows : List Row) (leaves : List ℕ) (sum : ℕ) → sum < 2 ^ 64 → (rows ≡ []) ⊎ (leaves ≡ [])
+    → (sum + packed rows leaves) % 2 ^ 64 ≡ sum
+pack_end rows leaves sum small e =
+    ap (λ (k : ℕ). (sum + k) % 2 ^ 64) (none_packed rows leaves e) ∙ ap (λ (k : ℕ). k % 2 ^ 64) (add-zero sum)
+    ∙ mod-eq_of_lt small
 
-  -- a turn
-  module _ (i : ℕ) (less : i < length leaves) where
-    rows_next : drop i (take n rows) ≡ get_or rows i pad ∷ drop (i + 1) (take n rows)
-    rows_next =
-        let l : length (take n rows) ≡ n = length-take-le n rows room in
-        drop-cons (take n rows) i pad (omega arith)
-        ∙ ap₂ ◌∷◌ (get_or-take n rows i pad (omega arith)) (ap (λ (k : ℕ). drop k (take n rows)) (sym (add-one i)))
+-- A turn.
+module _ {rows : List Row} {r : Row} {rs : List Row} (first : rows ≡ r ∷ rs) where
+  pub low_rest : Low rows → Low rs
+  low_rest low i h = let l : Low (r ∷ rs) = subst Low first low in l (suc i) (omega (arith, h))
 
-    leaves-next : drop i leaves ≡ get_or leaves i 0 ∷ drop (i + 1) leaves
-    leaves-next = drop-cons leaves i 0 less ∙ ap (λ (k : ℕ). get_or leaves i 0 ∷ drop k leaves) (sym (add-one i))
-
-    module _ (b : Bool) (s w : ℕ) (is : b ≡ is_row s w (get_or rows i pad)) where
-      leaf-step : leaf_at (drop i (take n rows)) (drop i leaves) s w ≡ cond b (get_or leaves i 0) (leaf_at (drop (i + 1) (take n rows)) (drop (i + 1) leaves) s w)
-      leaf-step =
-          ap₂ (λ rs xs. leaf_at rs xs s w) rows_next leaves-next
-          ∙ ap (λ c. cond c (get_or leaves i 0) (leaf_at (drop (i + 1) (take n rows)) (drop (i + 1) leaves) s w)) (sym is)
-
-      pub leaf-here : b ≡ true → leaf_at (drop i (take n rows)) (drop i leaves) s w ≡ get_or leaves i 0
-      leaf-here h = leaf-step ∙ rw h refl
-
-      pub leaf-past : b ≡ false → leaf_at (drop i (take n rows)) (drop i leaves) s w ≡ leaf_at (drop (i + 1) (take n rows)) (drop (i + 1) leaves) s w
-      leaf-past h = leaf-step ∙ rw h refl
-
-    width-step : in_widths (drop i (take n rows)) (drop i leaves)
-        ≡ ltb (get_or leaves i 0) (2 ^ (get_or rows i pad).width) && in_widths (drop (i + 1) (take n rows)) (drop (i + 1) leaves)
-    unfolding in_widths
-    width-step = ap₂ in_widths rows_next leaves-next
-
-    pub width-over : 2 ^ (get_or rows i pad).width ≤ get_or leaves i 0 → in_widths (drop i (take n rows)) (drop i leaves) ≡ false
-    width-over h = width-step ∙ rw (le-ltb (get_or leaves i 0) (2 ^ (get_or rows i pad).width) h) refl
-
-    pub width_in : get_or leaves i 0 < 2 ^ (get_or rows i pad).width → in_widths (drop i (take n rows)) (drop i leaves) ≡ in_widths (drop (i + 1) (take n rows)) (drop (i + 1) leaves)
-    width_in h = width-step ∙ rw (lt-ltb (get_or leaves i 0) (2 ^ (get_or rows i pad).width) h) refl
-
-    -- one leaf more, modulo 2^64
-    pub pack_step : (sum new : ℕ) → new ≡ (sum + get_or leaves i 0 * 2 ^ (get_or rows i pad).start % 2 ^ 64) % 2 ^ 64
-        → (sum + packed (drop i (take n rows)) (drop i leaves)) % 2 ^ 64 ≡ (new + packed (drop (i + 1) (take n rows)) (drop (i + 1) leaves)) % 2 ^ 64
-    unfolding packed
-    pack_step sum new is =
-        let x : ℕ = get_or leaves i 0 * 2 ^ (get_or rows i pad).start in
-        let rest : ℕ = packed (drop (i + 1) (take n rows)) (drop (i + 1) leaves) in
-        let one : new ≡ (sum + x) % 2 ^ 64 = is ∙ add-mod-mod sum x (2 ^ 64) in
-        ap (λ k. (sum + k) % 2 ^ 64) (ap₂ packed rows_next leaves-next)
-        ∙ ap (λ k. k % 2 ^ 64) (sym (add_assoc sum x rest))
-        ∙ sym (ap (λ k. (k + rest) % 2 ^ 64) one ∙ mod-add-mod (sum + x) (2 ^ 64) rest)
+  -- one leaf more, modulo 2^64
+  pub pack_step : {leaves : List ℕ} {x : ℕ} {xs : List ℕ} → leaves ≡ x ∷ xs → (sum : ℕ)
+      → (sum + packed rows leaves) % 2 ^ 64 ≡ ((sum + x * 2 ^ r.start % 2 ^ 64) % 2 ^ 64 + packed rs xs) % 2 ^ 64
+  unfolding packed
+  pack_step {x = x} {xs = xs} e sum =
+      let n : ℕ = x * 2 ^ r.start in
+      let rest : ℕ = packed rs xs in
+      ap (λ (k : ℕ). (sum + k) % 2 ^ 64) (ap₂ packed first e)
+      ∙ ap (λ (k : ℕ). k % 2 ^ 64) (sym (add_assoc sum n rest))
+      ∙ sym (ap (λ (k : ℕ). (k + rest) % 2 ^ 64) (add-mod-mod sum n (2 ^ 64)) ∙ mod-add-mod (sum + n) (2 ^ 64) rest)

@@ -1,9 +1,10 @@
 -- Making and decoding are inverse (#106). What is packed has the leaves as its fields, so the rows that the leaves pick are those of the value; and the
 -- fields of a value, at its own rows, pick these rows and pack to the value.
-use Rattle.std.proofs.Common.{◌≡◌, ℕ, suc, ◌+◌, ◌*◌, ◌%◌, ◌^◌, ◌<◌, Bool, true, false, cond, ◌&&◌, T, ltb, List, [], ◌∷◌, ◌++◌, map, length, sym, refl, ap, ◌∙◌, subst, ap₂, mod-eq_of_lt, arith, eqb→eq, ltb→lt, lt→ltb, lt-ltb}
+use Rattle.std.proofs.Common.{◌≡◌, ◌⊎◌, inl, inr, Result, Ok, Err, ℕ, suc, ◌+◌, ◌*◌, ◌%◌, ◌^◌, ◌<◌, Bool, true, false, true≢false, cond, ◌&&◌, T, ltb, List, [], ◌∷◌, ◌++◌, map, length, sym, refl, ap, ◌∙◌, subst, ap₂, mod-eq_of_lt, arith, eqb→eq, ltb→lt, lt→ltb, lt-ltb}
 use Rattle.promise.proofs.Tests.{both_left, both_right, both_intro, true_is, is_true}
+use mathlib.Core.List.{Memᴰ}
 use Rattle.refusals.specs.Refusals.{refusal_number, passed, no_refusal, bare, carrying}
-use Rattle.refusals.specs.declared.Reason.TheVariants.{InvalidEc, NoLayout, WideLeaf}
+use Rattle.refusals.specs.declared.Reason.TheVariants.{InvalidEc, WideLeaf}
 use Rattle.refusals.specs.declared.Refusal.{Refusal}
 use Rattle.records.specs.Bits.{field_of}
 use Rattle.records.specs.Kinds.{kind_of}
@@ -27,11 +28,12 @@ use Rattle.esr.specs.declared.Answer.{Answer}
 use Rattle.esr.proofs.Laws.{class-empty, class-filled, top-fails, top-passes}
 use Rattle.reading.specs.Leaves.{leaves_in, leaves}
 use Rattle.reading.proofs.HasBits.{inner}
-use Rattle.reading.proofs.Reading.{refused-is}
+use Rattle.reading.proofs.Outcome.{not_zero}
+use Rattle.reading.proofs.Reading.{accepted_or_refused, refused-is}
+use Rattle.reading.specs.Refusing.{refusing}
 use Rattle.maker.specs.Making.{Choice, Chooses, unserved, unfit, fit, table_for, in_widths, packed, value_of, nothing, judged, made_at, made_of}
 use Rattle.maker.specs.Parts.{Parts}
 use Rattle.maker.specs.Promises.{Makes}
-use Rattle.maker.specs.declared.Made.{Made}
 use Rattle.maker.proofs.Choosing.{number-regular, one_choice, leaf-tiles, fit-tiles, served_less, all_fit}
 use Rattle.maker.proofs.Packing.{packed_less, packed_fields, packed-own, own_widths}
 
@@ -133,15 +135,31 @@ module _ (rule class il iss2 iss : ℕ) where
       (both_intro (ltb il (2 ^ 1)) _ (lt→ltb il (2 ^ 1) c) (both_intro (ltb iss (2 ^ 25)) _ (lt→ltb iss (2 ^ 25) d) tt))))
       refl)
 
--- what is made decodes, and is judged a value
-judged-is : (v : ℕ) (m : Made) → m ≡ judged v → m.refusal ≡ no_refusal → (m.value ≡ v) × ((answer_of v).refusal ≡ no_refusal)
-unfolding judged
-judged-is v m e h =
-    let f : (answer_of v).refusal ≡ no_refusal = sym (ap (λ (x : Made). x.refusal) e) ∙ h in
-    (ap (λ (x : Made). x.value) e ∙ ap (λ (g : Refusal). cond (passed g) v 0) f, f)
+abbrev is_ok : Result ℕ Refusal → Bool
+is_ok (Ok v) = true
+is_ok (Err f) = false
 
-numbered : (m : Made) (f : Refusal) → m ≡ nothing f → m.refusal ≡ no_refusal → refusal_number f ≡ 0
-numbered m f e h = ap refusal_number (sym (ap (λ (x : Made). x.refusal) e) ∙ h)
+abbrev value_in_ok : Result ℕ Refusal → ℕ
+value_in_ok (Ok v) = v
+value_in_ok (Err f) = 0
+
+-- a decoded value that nothing is refused of carries no refusal
+clear-of : (v : ℕ) → passed (answer_of v).refusal ≡ true → (answer_of v).refusal ≡ no_refusal
+clear-of v h = by (accepted_or_refused v (answer_of v) refl)
+  where
+    by : ((answer_of v).refusal ≡ no_refusal) ⊎ Memᴰ (refusal_number (answer_of v).refusal) refusing → (answer_of v).refusal ≡ no_refusal
+    by (inl e) = e
+    by (inr m) = absurd (not_zero (answer_of v).refusal m (eqb→eq (refusal_number (answer_of v).refusal) 0 (is_true h)))
+
+-- what is made decodes, and is judged a value
+judged-is : (u v : ℕ) → Ok v ≡ judged u → (v ≡ u) × ((answer_of u).refusal ≡ no_refusal)
+unfolding judged
+judged-is u v e = by (passed (answer_of u).refusal) refl e
+  where
+    by : (b : Bool) → passed (answer_of u).refusal ≡ b → Ok v ≡ cond b (Ok u) (Err (answer_of u).refusal)
+        → (v ≡ u) × ((answer_of u).refusal ≡ no_refusal)
+    by true h e = (ap value_in_ok e, clear-of u h)
+    by false h e = absurd (true≢false (ap is_ok e))
 
 module _ (class il iss2 : ℕ) (xs : List ℕ) (served : layout_number class ≡ empty → ⊥) (rows : List Row) (f : Fits (table_for class) xs rows) where
   -- leaves in their widths, at rows that they fit: an accepted value has the parts that it was packed from
@@ -171,33 +189,33 @@ module _ (class il iss2 : ℕ) (xs : List ℕ) (served : layout_number class ≡
       parts_are v r (accepted-by v r d h)
       ∙ ap₂ (λ (n : ℕ) (ns : List ℕ). 0 ∷ n ∷ ns) a (ap₂ (λ (n : ℕ) (ns : List ℕ). n ∷ ns) c (ap₂ (λ (n : ℕ) (ns : List ℕ). n ∷ ns) b own-leaves))
 
-  module _ (m : Made) (h : m.refusal ≡ no_refusal) (e : m ≡ made_at class il iss2 (leaf_rows (table_for class) rows) xs) where
-    made_at_lem : (r : Answer) → Decoded m.value r → (r.refusal ≡ no_refusal) × Parts r class il iss2 xs
+  module _ (v : ℕ) (e : Ok v ≡ made_at class il iss2 (leaf_rows (table_for class) rows) xs) where
+    made_at_lem : (r : Answer) → Decoded v r → (r.refusal ≡ no_refusal) × Parts r class il iss2 xs
     unfolding made_at
     made_at_lem r d = by (in_widths (leaf_rows (table_for class) rows) xs && (ltb iss2 (2 ^ 5) && ltb il 2)) refl
       where
         is : (b : Bool) → in_widths (leaf_rows (table_for class) rows) xs && (ltb iss2 (2 ^ 5) && ltb il 2) ≡ b
-            → m ≡ cond b (judged (value_of class il iss2 (leaf_rows (table_for class) rows) xs)) (nothing (bare WideLeaf))
+            → Ok v ≡ cond b (judged (value_of class il iss2 (leaf_rows (table_for class) rows) xs)) (nothing (bare WideLeaf))
         is b w = e ∙ ap (λ (c : Bool). cond c (judged (value_of class il iss2 (leaf_rows (table_for class) rows) xs)) (nothing (bare WideLeaf))) w
 
         by : (b : Bool) → in_widths (leaf_rows (table_for class) rows) xs && (ltb iss2 (2 ^ 5) && ltb il 2) ≡ b → (r.refusal ≡ no_refusal) × Parts r class il iss2 xs
         by true w =
-            let v : ℕ = value_of class il iss2 (leaf_rows (table_for class) rows) xs in
-            let j : (m.value ≡ v) × ((answer_of v).refusal ≡ no_refusal) = judged-is v m (is true w) h in
-            let d' : Decoded v r = subst (λ (n : ℕ). Decoded n r) j.0 d in
+            let u : ℕ = value_of class il iss2 (leaf_rows (table_for class) rows) xs in
+            let j : (v ≡ u) × ((answer_of u).refusal ≡ no_refusal) = judged-is u v (is true w) in
+            let d' : Decoded u r = subst (λ (n : ℕ). Decoded n r) j.0 d in
             let ok : r.refusal ≡ no_refusal = ap (λ (a : Answer). a.refusal) d' ∙ j.1 in
             (ok, made-parts (is_true w) r d' ok)
-        by false w = absurd (omega (arith, numbered m (bare WideLeaf) (is false w) h))
+        by false w = absurd (true≢false (ap is_ok (is false w)))
 
 -- What is made decodes to exactly those leaves, that class, that IL and that ISS2.
-pub made-decodes : (class il iss2 : ℕ) (xs : List ℕ) (m : Made) → Makes (class, il, iss2, xs) m → m.refusal ≡ no_refusal
-    → (r : Answer) → Decoded m.value r → (r.refusal ≡ no_refusal) × Parts r class il iss2 xs
-made-decodes class il iss2 xs m p h r d = by p.1 p.2
+pub made-decodes : (class il iss2 : ℕ) (xs : List ℕ) (v : ℕ) → Makes (class, il, iss2, xs) (Ok v)
+    → (r : Answer) → Decoded v r → (r.refusal ≡ no_refusal) × Parts r class il iss2 xs
+made-decodes class il iss2 xs v p r d = by p.1 p.2
   where
-    by : {c : Choice} → Chooses class xs c → m ≡ made_of class il iss2 xs c → (r.refusal ≡ no_refusal) × Parts r class il iss2 xs
-    by (unserved n) e = absurd (omega (arith, numbered m (carrying InvalidEc class) e h))
-    by (unfit n k) e = absurd (omega (arith, numbered m (bare NoLayout) e h))
-    by (fit n rows f) e = made_at_lem class il iss2 xs n rows f m h e r d
+    by : {c : Choice} → Chooses class xs c → Ok v ≡ made_of class il iss2 xs c → (r.refusal ≡ no_refusal) × Parts r class il iss2 xs
+    by (unserved n) e = absurd (true≢false (ap is_ok e))
+    by (unfit n k) e = absurd (true≢false (ap is_ok e))
+    by (fit n rows f) e = made_at_lem class il iss2 xs n rows f v e r d
 
 -- The other way round.
 
@@ -219,11 +237,12 @@ module _ (esr : ℕ) (r : Answer) (d : Decoded esr r) (h : r.refusal ≡ no_refu
       let all : esr % 2 ^ 64 ≡ esr = mod-eq_of_lt small in
       omega (arith, whole, low, own, all, top-clear esr r d h)
 
-  judged-own : judged esr ≡ record { value = esr; refusal = no_refusal }
+  judged-own : judged esr ≡ Ok esr
   unfolding judged
-  judged-own = ap (λ (f : Refusal). record { value = cond (passed f) esr 0; refusal = f }) (sym (ap (λ (a : Answer). a.refusal) d) ∙ h)
+  judged-own =
+      ap (λ (f : Refusal). cond (passed f) (Ok esr) (Err f)) (sym (ap (λ (a : Answer). a.refusal) d) ∙ h)
 
-  own-made : (m : Made) → Makes (class_of esr, field_of esr 25 1, field_of esr 32 5, own_leaves (class_of esr) (iss_of esr)) m → m ≡ record { value = esr; refusal = no_refusal }
+  own-made : (m : Result ℕ Refusal) → Makes (class_of esr, field_of esr 25 1, field_of esr 32 5, own_leaves (class_of esr) (iss_of esr)) m → m ≡ Ok esr
   own-made m p =
       let rows : List Row = rows_for table (iss_of esr) in
       let f : Fits table (map (value_in (iss_of esr)) set) rows = fits-own table (number-regular (layout_number (class_of esr))) (iss_of esr) in
@@ -237,7 +256,7 @@ module _ (esr : ℕ) (r : Answer) (d : Decoded esr r) (h : r.refusal ≡ no_refu
       ∙ judged-own
 
   -- Any accepted value's class, IL, ISS2 and ISS leaves make that value again.
-  pub parts_make : (class il iss2 : ℕ) (xs : List ℕ) → Parts r class il iss2 xs → (m : Made) → Makes (class, il, iss2, xs) m → m ≡ record { value = esr; refusal = no_refusal }
+  pub parts_make : (class il iss2 : ℕ) (xs : List ℕ) → Parts r class il iss2 xs → (m : Result ℕ Refusal) → Makes (class, il, iss2, xs) m → m ≡ Ok esr
   parts_make class il iss2 xs p m k =
       let e : 0 ∷ iss2 ∷ class ∷ il ∷ xs ≡ 0 ∷ field_of esr 32 5 ∷ class_of esr ∷ field_of esr 25 1 ∷ own_leaves (class_of esr) (iss_of esr) =
       sym p ∙ parts_are esr r (accepted-by esr r d h) in
@@ -251,5 +270,5 @@ module _ (esr : ℕ) (r : Answer) (d : Decoded esr r) (h : r.refusal ≡ no_refu
       (subst (λ (n : ℕ). Makes (class, il, n, own_leaves (class_of esr) (iss_of esr)) m) a (subst (λ (ns : List ℕ). Makes (class, il, iss2, ns) m) l k))))
 
   -- A make that is refused has no value that would have served.
-  pub refused_none : (class il iss2 : ℕ) (xs : List ℕ) (m : Made) → Makes (class, il, iss2, xs) m → (m.refusal ≡ no_refusal → ⊥) → Parts r class il iss2 xs → ⊥
-  refused_none class il iss2 xs m k n p = n (ap (λ (x : Made). x.refusal) (parts_make class il iss2 xs p m k))
+  pub refused_none : (class il iss2 : ℕ) (xs : List ℕ) (f : Refusal) → Makes (class, il, iss2, xs) (Err f) → Parts r class il iss2 xs → ⊥
+  refused_none class il iss2 xs f k p = true≢false (sym (ap is_ok (parts_make class il iss2 xs p (Err f) k)))

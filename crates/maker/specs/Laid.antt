@@ -1,5 +1,5 @@
 -- The rows of leaves in the code's array, and what the code finds of them.
-use Rattle.std.specs.Prelude.{◌≡◌, ℕ, ◌^◌, ◌<◌, ◌≤◌, Bool, true, ◌&&◌, List, length, take, ◌==◌, slice_index_or}
+use Rattle.std.specs.Prelude.{◌≡◌, ℕ, ◌^◌, ◌<◌, ◌≤◌, Bool, true, ◌&&◌, List, length, take, ◌==◌, slice_index_or, Option, Some, None}
 use Rattle.records.specs.declared.Row.{Row}
 use Rattle.tables.specs.Applying.{rows_for}
 use Rattle.layouts.specs.Layouts.{table_of, layout_room, pad}
@@ -18,24 +18,20 @@ pub record Laid (number index : ℕ) (r : LeafRows) : Type 0 where
   pub long : length r.rows ≡ layout_room
   pub rows : take r.count r.rows ≡ rows_at number index
 
--- there are as many leaves
-pub record Long (set : LeafRows) (leaves : List ℕ) : Type 0 where
-  pub few : set.count ≤ layout_room
-  pub many : set.count ≡ length leaves
-
 -- each row starts within 64 bits
-abbrev pub Low : LeafRows → List ℕ → Type 0
-Low set leaves = (i : ℕ) → i < length leaves → (slice_index_or set.rows i pad).start < 64
+abbrev pub Low : List Row → Type 0
+Low rows = (i : ℕ) → i < length rows → (slice_index_or rows i pad).start < 64
 
 -- leaves that fit their widths fit ISS
-abbrev pub Bounded : LeafRows → List ℕ → Type 0
-Bounded set leaves = in_widths (take set.count set.rows) leaves ≡ true → packed (take set.count set.rows) leaves < 2 ^ 25
+abbrev pub Bounded : List Row → List ℕ → Type 0
+Bounded rows leaves = in_widths rows leaves ≡ true → packed rows leaves < 2 ^ 25
 
 -- the rows at an outcome are as many as the leaves, which tell it at them
 unfoldable pub tells_at : ℕ → ℕ → List ℕ → Bool
 tells_at number index leaves = length (rows_at number index) == length leaves && index_of (answers (rows_at number index) leaves) == index
 
 -- the outcome whose rows fit the leaves, which tell it; or no rows of the layout fit
-pub data FitsAt (number : ℕ) (leaves : List ℕ) (r : ℕ) : Type 0 where
-  one : r < sets → Fits (table_of number) leaves (rows_for (table_of number) (outcome_of r)) → r ≡ index_of (answers (rows_at number r) leaves) → FitsAt number leaves r
-  none : r ≡ sets → ((rows : List Row) → Fits (table_of number) leaves rows → ⊥) → FitsAt number leaves r
+pub data FitsAt (number : ℕ) (leaves : List ℕ) : Option ℕ → Type 0 where
+  one : (r : ℕ) → r < sets → Fits (table_of number) leaves (rows_for (table_of number) (outcome_of r))
+      → r ≡ index_of (answers (rows_at number r) leaves) → FitsAt number leaves (Some r)
+  none : ((rows : List Row) → Fits (table_of number) leaves rows → ⊥) → FitsAt number leaves None

@@ -1,6 +1,6 @@
 -- 01, "Marked cases, proved together as one table", and the cases of #102 and #108: what is asked of the answer to each value. Names and texts are strings; refusal
 -- 1 names its bits (#105).
-use Rattle.std.specs.Prelude.{ℕ, ◌≤◌, ◌≡◌, length, drop}
+use Rattle.std.specs.Prelude.{ℕ, ◌≤◌, ◌≡◌, length, drop, Result, Ok}
 use Prim.Native.String.{String}
 use mathlib.Core.List.{List, [], ◌∷◌, ◌++◌, Memᴰ}
 use Rattle.texts.specs.Pool.{bytes, text_at}
@@ -12,7 +12,6 @@ use Rattle.records.specs.declared.Record.{Record}
 use Rattle.esr.specs.Promises.{Decoded}
 use Rattle.esr.specs.declared.Answer.{Answer}
 use Rattle.listing.specs.Promises.{Listing}
-use Rattle.written.specs.declared.Written.{Written}
 use Rattle.number.specs.Promises.{Parsed}
 use Rattle.number.specs.declared.Number.{Number}
 
@@ -118,7 +117,7 @@ ended (line ∷ lines) = bytes line ++ (bytes "\n" ++ ended lines)
 -- in every buffer with room for it, by every answer that listing's promise allows, and after it what stood there
 abbrev pub ListingHolds : Type 0
 ListingHolds =
-    (before after : List ℕ) (r : Written)
+    (before after : List ℕ) (r : Result ℕ Refusal)
     → length (ended listed) ≤ length before
     → Listing (0x56000001, before) (r, after)
-    → (r ≡ record { refusal = no_refusal; bytes = length (ended listed) }) × (after ≡ ended listed ++ drop (length (ended listed)) before)
+    → (r ≡ Ok (length (ended listed))) × (after ≡ ended listed ++ drop (length (ended listed)) before)

@@ -1,4 +1,5 @@
-// What decides the rows of a value: whether a field is the class or one that a condition of the class's table names, and whether two values have the same rows (#114).
+// What decides the rows of a value: whether a field is the class or one that a condition of the class's table names, and
+// whether two values have the same rows (#114).
 #![tactic(auto)]
 
 ghost use Rattle.named_fields.specs.Fields.{is_field};
@@ -19,10 +20,7 @@ const ISS_WIDTH: u8 = 25;
 fn is_field(start: u8, width: u8, at: u8, wide: u8) -> bool
     ensures { result ≡ is_field start width at wide }
 {
-    if start != at {
-        return false;
-    }
-    width == wide
+    start == at && width == wide
 }
 
 pub fn is_named(class: u64, start: u8, width: u8) -> bool
@@ -55,8 +53,5 @@ pub fn same_rows(first: u64, second: u64) -> bool
     let own = records::field(second, 0, ISS_WIDTH);
     let layout = layouts::layout_of(number, iss);
     let next = layouts::layout_of(other, own);
-    if layout.rule != next.rule {
-        return false;
-    }
-    leaf_values::same_sets(number, iss, other, own)
+    layout.rule == next.rule && leaf_values::same_sets(number, iss, other, own)
 }

@@ -5,6 +5,9 @@ use Prim.Native.String.{String}
 use Prim.Native.String as S
 use Rattle.number.specs.Digits.{digit_of}
 use Rattle.number.specs.Numbers.{read_digit, read_digits, starts_with, number_in, number_of}
+use Rattle.std.specs.Prelude.{Result, Ok, Err}
+use Rattle.number.specs.declared.NumberRead.{NumberRead}
+use Rattle.refusals.specs.declared.Refusal.{Refusal}
 use Rattle.number.specs.Rest.{is_stop, before_stop, rest_of, are_stops, read_of, whole_of}
 use Rattle.promise.proofs.Tests.{every}
 use Rattle.refusals.specs.Refusals.{refusal_number}
@@ -87,11 +90,12 @@ fronts =
     takes_none "1,2 " 9 ∷
     []
 
+abbrev is_it : Result NumberRead Refusal → Front → Bool
+is_it (Ok r) e = eqb 0 e.refusal && eqb r.value e.value && eqb r.taken e.taken
+is_it (Err f) e = eqb (refusal_number f) e.refusal && eqb 0 e.value && eqb 0 e.taken
+
 abbrev takes_it : ℕ → Front → Bool
-takes_it at e =
-    eqb (refusal_number (read_of (bytes e.text)).refusal) e.refusal
-    && eqb (read_of (bytes e.text)).value e.value
-    && eqb (read_of (bytes e.text)).taken e.taken
+takes_it at e = is_it (read_of (bytes e.text)) e
 
 all-taken : T (every takes_it 0 fronts)
 unfolding bytes digit_of read_digit read_digits starts_with number_in number_of is_stop before_stop read_of

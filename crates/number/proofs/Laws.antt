@@ -2,12 +2,13 @@
 -- count is computed for every byte; the rest goes by the cases of the definitions.
 use Rattle.std.proofs.Common.{◌≡◌, ℕ, ◌+◌, ◌-◌, ◌*◌, ◌/◌, ◌%◌, ◌^◌, ◌<◌, ◌≤◌, Bool, true, false, cond, not, ◌&&◌, ◌||◌, T, eqb, ltb, leb, ◌⊎◌, List, [], ◌∷◌, length, get_or, drop, sym, refl, ap, ◌∙◌, subst, inl, inr, not-suc-le-zero, div-lt_iff_lt-mul, add-mul, le-div_iff_mul-le, zero-add, add-one, arith, eqb→eq, leb→le, drop_of_length-le, drop-cons, ltb-false, ltb-true, le-ltb, lt-ltb, eq-eqb, ne_eqb, eqb-true, le-leb, leb-false}
 use mathlib.Core.Bool.{false≢true, and-true, and-false}
+use Rattle.std.specs.List.{list_all}
 use lib.Bits.{bit_and}
 use borrow.Author.Tests.{lt-leb}
 use Rattle.number.specs.Digits.{base_of, digit_of, no_digit}
 use Rattle.number.specs.Numbers.{in_digits, refused, grown, read_digit, read_digits, starts_with, is_hex, unsigned, number_from, number_in, number_of}
 use Rattle.number.specs.Rest.{is_stop, before_stop, are_stops}
-use Rattle.number.specs.Steps.{advance_of, is_digits, character_of, stop_of, step_of, lead_of, DigitsTo}
+use Rattle.number.specs.Steps.{advance_of, is_digits, character_of, stop_of, step_of, DigitsTo}
 use Rattle.number.specs.declared.Lead.{Lead}
 use Rattle.number.specs.declared.NumberState.{NumberState}
 use Rattle.promise.proofs.Tests.{from, from_at}
@@ -64,24 +65,21 @@ letters : T (from from-a 58 198)
 unfolding digit_of
 letters = tt
 
-module _ (b w : ℕ) (hb : b < 2 ^ 8) (hw : w < 2 ^ 64) where
-  digit-from-zero : (base n : ℕ) → T (from (from_zero base) 0 n) → b < n → (w + 48) % 2 ^ 64 ≡ b → CountsAs base b w
-  digit-from-zero base n t h e =
-      let wrapped : (b + (2 ^ 64 - 48)) % 2 ^ 64 ≡ w = omega arith in
-      subst (CountsAs base b) wrapped (counted base b _ (subst (λ k. T (from_zero base k)) (zero-add b) (from_at (from_zero base) 0 n b t h)))
+module _ (b : ℕ) where
+  digit-from-zero : (base n : ℕ) → T (from (from_zero base) 0 n) → b < n → CountsAs base b ((b + (2 ^ 64 - 48)) % 2 ^ 64)
+  digit-from-zero base n t h =
+      counted base b _ (subst (λ k. T (from_zero base k)) (zero-add b) (from_at (from_zero base) 0 n b t h))
 
-  pub digit_decimal : (w + 48) % 2 ^ 64 ≡ b → CountsAs 10 b w
-  digit_decimal e = digit-from-zero 10 256 decimals hb e
+  pub digit_decimal : b < 2 ^ 8 → CountsAs 10 b ((b + (2 ^ 64 - 48)) % 2 ^ 64)
+  digit_decimal h = digit-from-zero 10 256 decimals h
 
-  pub digit_figure : b ≤ 57 → (w + 48) % 2 ^ 64 ≡ b → CountsAs 16 b w
-  digit_figure h e = digit-from-zero 16 58 figures (omega arith) e
+  pub digit_figure : b ≤ 57 → CountsAs 16 b ((b + (2 ^ 64 - 48)) % 2 ^ 64)
+  digit_figure h = digit-from-zero 16 58 figures (omega arith)
 
-  pub digit_letter : 57 < b → (w + 65) % 2 ^ 64 ≡ b → CountsAs 16 b (10 + bit_and w but_case)
-  digit_letter l e =
-      let wrapped : (b + (2 ^ 64 - 65)) % 2 ^ 64 ≡ w = omega arith in
+  pub digit_letter : b < 2 ^ 8 → 57 < b → CountsAs 16 b (10 + bit_and ((b + (2 ^ 64 - 65)) % 2 ^ 64) but_case)
+  digit_letter h l =
       let at : 58 + (b - 58) ≡ b = omega arith in
-      subst (λ v. CountsAs 16 b (10 + bit_and v but_case)) wrapped
-      (counted 16 b _ (subst (λ k. T (from-a k)) at (from_at from-a 58 198 (b - 58) letters (omega arith))))
+      counted 16 b _ (subst (λ k. T (from-a k)) at (from_at from-a 58 198 (b - 58) letters (omega arith)))
 
 module _ (b : ℕ) where
   abbrev Outside : ℕ → ℕ → Type 0
@@ -193,15 +191,17 @@ stop-refused st b e =
     let none : digit_of b ≡ no_digit = digit-none b (inl (omega arith)) (inl (omega arith)) (inl (omega arith)) in
     read_by st b (λ (r : NumberState). refused r.reason ≡ true) refl refl (λ d f. absurd (omega (arith, base_most st.hex)))
 
+-- stops alone stand where each byte is one
+pub stops_all : (s : List ℕ) → list_all is_stop s ≡ are_stops s
+unfolding are_stops
+stops_all [] = refl
+stops_all (b ∷ s) = ap (λ (t : Bool). is_stop b && t) (stops_all s)
+
 -- what is left from an offset on: its end, a stop, or one byte more
 module _ (s : List ℕ) (i : ℕ) where
   pub before-end : length s ≤ i → before_stop (drop i s) ≡ []
   unfolding before_stop
   before-end h = rw (drop_of_length-le s h)
-
-  pub stops_end : length s ≤ i → are_stops (drop i s) ≡ true
-  unfolding are_stops
-  stops_end h = rw (drop_of_length-le s h)
 
   module _ (h : i < length s) where
     pub before-stop : is_stop (get_or s i 0) ≡ true → before_stop (drop i s) ≡ []
@@ -211,14 +211,6 @@ module _ (s : List ℕ) (i : ℕ) where
     pub before_more : is_stop (get_or s i 0) ≡ false → before_stop (drop i s) ≡ get_or s i 0 ∷ before_stop (drop (i + 1) s)
     unfolding before_stop
     before_more e = rw (add-one, drop-cons s i 0) (simp e)
-
-    pub stops_no : is_stop (get_or s i 0) ≡ false → are_stops (drop i s) ≡ false
-    unfolding are_stops
-    stops_no e = rw (drop-cons s i 0) (simp e)
-
-    pub stops_more : is_stop (get_or s i 0) ≡ true → are_stops (drop i s) ≡ are_stops (drop (i + 1) s)
-    unfolding are_stops
-    stops_more e = rw (add-one, drop-cons s i 0) (simp e)
 
 -- The loop over the digits. At each turn the state so far, on what is left, leads to the whole answer.
 abbrev pub DigitsFrom : Lead → List ℕ → NumberState → ℕ → Type 0
@@ -282,22 +274,6 @@ module _ (st : NumberState) (b : ℕ) where
     pub next_lead : is_digits a.stage ≡ false → next_of st b ≡ a
     unfolding next_of
     next_lead d = rw e (simp (free, rw e at d))
-
--- A character before the digits: the end, a digit, or one that is taken.
-
-module _ (l : Lead) (s : List ℕ) where
-  pub lead_end : length s ≤ l.at → lead_of l (drop l.at s) ≡ l
-  unfolding lead_of
-  lead_end h = rw (drop_of_length-le s h)
-
-  module _ (h : l.at < length s) {a : NumberState} (e : a ≡ advance_of l.state (get_or s l.at 0)) where
-    pub lead_digit : is_digits a.stage ≡ true → lead_of l (drop l.at s) ≡ l
-    unfolding lead_of
-    lead_digit d = rw (drop-cons s l.at 0) (simp (rw e at d))
-
-    pub lead_taken : is_digits a.stage ≡ false → lead_of l (drop l.at s) ≡ record { state = a; at = l.at + 1 }
-    unfolding lead_of
-    lead_taken d = rw (drop-cons s l.at 0, e) (simp (rw e at d))
 
 -- The whole input.
 

@@ -1,7 +1,8 @@
--- Three characters at most stand before the digits, and the loop over the digits ends at the first stop: so parse_number's number is that of
--- #107. By the stages, each of which is later than the one before it.
+-- Three characters at most stand before the digits, and the loop over the digits ends at the first stop: so
+-- parse_number's number is that of #107. By the stages, each of which is later than the one before it.
 use Prim.Native.Char.{code}
-use Rattle.std.proofs.Common.{◌≡◌, ℕ, ◌+◌, ◌<◌, ◌≤◌, Bool, true, false, cond, eqb, ◌⊎◌, List, [], ◌∷◌, length, drop, sym, refl, ap, ◌∙◌, subst, inl, inr, ⊎_elim, arith, drop-drop, ne_eqb}
+use Rattle.std.proofs.Common.{◌≡◌, ℕ, ◌+◌, ◌<◌, ◌≤◌, Bool, true, false, cond, eqb, ◌⊎◌, List, [], ◌∷◌, length, drop}
+use Rattle.std.proofs.Common.{sym, refl, ap, ◌∙◌, subst, inl, inr, ⊎_elim, arith, drop-drop, ne_eqb}
 use mathlib.Core.Bool.{false≢true}
 use Rattle.number.proofs.Laws.{either, by-test, stop-low, next_lead}
 use Rattle.number.proofs.Steps.{Settled, characters_of, settled_steps, characters_number}

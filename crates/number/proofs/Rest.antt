@@ -1,18 +1,21 @@
 -- What the promises of #107 come to: where the number ends, what it takes, which rest is refused, and that an input without a stop is read as before. Each is
 -- an induction over the bytes, or the same said of the number before the stop.
-use Rattle.std.proofs.Common.{◌≡◌, ℕ, suc, Bool, true, false, cond, not, ◌&&◌, T, ◌⊎◌, List, [], ◌∷◌, ◌++◌, length, get_or, take, sym, refl, ap, ◌∙◌, inl, inr, ⊎_elim, append-nil}
+use Rattle.std.proofs.Common.{◌≡◌, ℕ, suc, Bool, true, false, cond, not, ◌&&◌, T, ◌⊎◌, List, [], ◌∷◌, ◌++◌, length, get_or, take, sym, refl, ap, ◌∙◌, inl, inr, ⊎_elim, append-nil, subst}
+use Rattle.std.specs.Prelude.{Ok, Err}
 use mathlib.Core.Bool.{false≢true, and-false}
 use Rattle.number.proofs.Laws.{either, by-test, un_not}
 use Rattle.number.proofs.Stops.{steps_before}
 use Rattle.number.proofs.Theorems.{accepted, accepts, refused-zero}
 use Rattle.number.specs.Numbers.{refused, starts_with, number_in, number_of}
 use Rattle.number.specs.Positional.{StandsFor, prefix_of}
-use Rattle.number.specs.Rest.{is_stop, before_stop, rest_of, no_stop, are_stops, taking, read_of, bad_rest, whole_of}
+use Rattle.number.specs.Rest.{is_stop, before_stop, rest_of, no_stop, are_stops, taking, read_of, taken_in, bad_rest, whole_of}
 use Rattle.number.specs.Steps.{start, steps_of, finish_before_of}
 use Rattle.number.specs.declared.Number.{Number}
+use Rattle.number.specs.declared.NumberRead.{NumberRead}
 use Rattle.promise.proofs.Tests.{both_left, true_is}
 use Rattle.refusals.specs.Refusals.{bare, no_refusal, passed}
 use Rattle.refusals.specs.declared.Reason.TheVariants.{Empty}
+use Rattle.refusals.specs.declared.Refusal.{Refusal}
 
 -- Where the number ends.
 
@@ -58,14 +61,22 @@ stop-behind (b ∷ s) =
     (λ e f. ⊎_elim (λ h. inl (ap suc h)) (λ h. inr h) (stop-behind s))
     refl
 
--- a number that is not refused takes them all
-read_taken : (s : List ℕ) → (read_of s).refusal ≡ no_refusal → (read_of s).taken ≡ length (before_stop s)
+-- an answer is the number that stands before the stop, not refused, and has its bytes
+by-taken : (n : Number) (k : ℕ) {r : NumberRead} → taking n k ≡ Ok r
+    → (passed n.refusal ≡ true) × (r ≡ record { value = n.value; taken = k })
+by-taken n k {r} e =
+    by-test (λ (t : Bool). passed n.refusal ≡ t → (t ≡ true) × (r ≡ record { value = n.value; taken = k })) (passed n.refusal)
+    (λ f g. (refl, cc (simp g at e)))
+    (λ f g. absurd (cc (simp g at e)))
+    refl
+
+pub read_taken : (s : List ℕ) {r : NumberRead} → read_of s ≡ Ok r → r.taken ≡ length (before_stop s)
 unfolding read_of
-read_taken s e = simp (ap passed e)
+read_taken s e = ap (λ (r : NumberRead). r.taken) (by-taken (number_of (before_stop s)) (length (before_stop s)) e).1
 
 -- accepted: the bytes taken are those before the first stop, and the byte behind them is a stop, or there is none
-pub taken-before : (s : List ℕ) → (read_of s).refusal ≡ no_refusal
-    → (take (read_of s).taken s ≡ before_stop s) × (((read_of s).taken ≡ length s) ⊎ (is_stop (get_or s (read_of s).taken 0) ≡ true))
+pub taken-before : (s : List ℕ) {r : NumberRead} → read_of s ≡ Ok r
+    → (take r.taken s ≡ before_stop s) × ((r.taken ≡ length s) ⊎ (is_stop (get_or s r.taken 0) ≡ true))
 taken-before s e = rw (read_taken s e) (take-before s, stop-behind s)
 
 -- read byte by byte as they come, the answer is the same: a caller counts the bytes before the stop by its steps (steps-behind)
@@ -75,13 +86,18 @@ steps_read s = ap (λ (n : Number). taking n (length (before_stop s))) (steps_be
 
 -- Refusals.
 
--- a number at the front of an input is accepted, or it is refused with a number, has the value 0 and takes no bytes
+-- a number at the front of an input is accepted, or it is refused with a number and takes no bytes
 pub read_refused_zero : (s : List ℕ)
-    → ((read_of s).refusal ≡ no_refusal) ⊎ ((refused (read_of s).refusal.reason ≡ true) × ((read_of s).value ≡ 0) × ((read_of s).taken ≡ 0))
+    → ((r : NumberRead) × (read_of s ≡ Ok r))
+    ⊎ ((f : Refusal) × (read_of s ≡ Err f) × (refused f.reason ≡ true) × (taken_in (read_of s) ≡ 0))
 unfolding read_of
 read_refused_zero s =
-    ⊎_elim (λ e. inl e)
-    (λ r. inr (r.0, r.1, simp (un_not (passed (number_of (before_stop s)).refusal) r.0)))
+    let n : Number = number_of (before_stop s) in
+    let k : ℕ = length (before_stop s) in
+    ⊎_elim (λ e. inl (record { value = n.value; taken = k }, (let p : passed n.refusal ≡ true = ap passed e in simp p)))
+    (λ r.
+    let same : taking n k ≡ Err n.refusal = simp (un_not (passed n.refusal) r.0) in
+    inr (n.refusal, same, r.0, ap taken_in same))
     (refused-zero (before_stop s))
 
 -- a whole input is accepted, or it is refused with a number and has the value 0
@@ -105,7 +121,7 @@ prefix_empty false = refl
 
 -- "Input that begins with such a byte is refused as Empty, as is "0x" followed by one"
 pub stop-first : (hex : Bool) (b : ℕ) (s : List ℕ) → is_stop b ≡ true
-    → (read_of (prefix_of hex ++ (b ∷ s)) ≡ record { value = 0; taken = 0; refusal = bare Empty })
+    → (read_of (prefix_of hex ++ (b ∷ s)) ≡ Err (bare Empty))
     × (whole_of (prefix_of hex ++ (b ∷ s)) ≡ record { value = 0; refusal = bare Empty })
 unfolding read_of whole_of
 stop-first hex b s e = rw (before-append (prefix_of hex) s b e, prefix_before hex, prefix_empty hex) (refl, refl)
@@ -113,11 +129,17 @@ stop-first hex b s e = rw (before-append (prefix_of hex) s b e, prefix_before he
 -- Which inputs are accepted.
 
 -- a number at the front of an input is accepted just where the bytes before the first stop stand for a value
-pub read-accepted : (s : List ℕ) → (read_of s).refusal ≡ no_refusal → StandsFor (before_stop s) (read_of s).value
+pub read-accepted : (s : List ℕ) {r : NumberRead} → read_of s ≡ Ok r → StandsFor (before_stop s) r.value
 unfolding read_of
-read-accepted s e = accepted (before_stop s) e
+read-accepted s {r} e =
+    let n : Number = number_of (before_stop s) in
+    let t = by-taken n (length (before_stop s)) e in
+    subst (λ v. StandsFor (before_stop s) v) (sym (ap (λ (q : NumberRead). q.value) t.1))
+    (accepted (before_stop s)
+    (⊎_elim (λ h. h) (λ h. absurd (false≢true (sym (un_not (passed n.refusal) h.0) ∙ t.0))) (refused-zero (before_stop s))))
 
-pub read-accepts : (s : List ℕ) (v : ℕ) → StandsFor (before_stop s) v → read_of s ≡ record { value = v; taken = length (before_stop s); refusal = no_refusal }
+pub read-accepts : (s : List ℕ) (v : ℕ) → StandsFor (before_stop s) v
+    → read_of s ≡ Ok (record { value = v; taken = length (before_stop s) })
 unfolding read_of
 read-accepts s v w = ap (λ (n : Number). taking n (length (before_stop s))) (accepts (before_stop s) v w)
 

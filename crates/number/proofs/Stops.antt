@@ -263,18 +263,3 @@ same_whole n t u h =
     (λ e f. ap (λ (v : Bool). cond (not v) bad_rest n) (h f))
     (λ e f. refl)
     refl
-
--- and what is answered then: the number where it is refused or stops alone stand behind it, and otherwise 23
-module _ {m n : Number} (e : m ≡ n) where
-  by_number : (u : Bool) → whole_by n u ≡ whole_by m u
-  by_number u = ap (λ (k : Number). whole_by k u) (sym e)
-
-  pub whole-refused : (u : Bool) → passed m.refusal ≡ false → m ≡ whole_by n u
-  whole-refused u p = sym (by_number u ∙ simp p)
-
-  module _ (p : passed m.refusal ≡ true) {t u : Bool} (a : t ≡ u) where
-    pub whole_stops : t ≡ true → m ≡ whole_by n u
-    whole_stops h = sym (by_number u ∙ simp (p, sym a ∙ h))
-
-    pub whole_remark : t ≡ false → bad_rest ≡ whole_by n u
-    whole_remark h = sym (by_number u ∙ simp (p, sym a ∙ h))

@@ -1,10 +1,11 @@
 -- What each public function promises. A promise takes what comes in, then what comes out.
-use Rattle.std.specs.Prelude.{◌≡◌, ℕ, Bool, List}
+use Rattle.std.specs.Prelude.{◌≡◌, ℕ, Bool, List, Result}
 use Rattle.number.specs.Rest.{read_of, whole_of}
 use Rattle.number.specs.Steps.{start, step_of, has_character, finish_of, finish_before_of}
 use Rattle.number.specs.declared.Number.{Number}
 use Rattle.number.specs.declared.NumberRead.{NumberRead}
 use Rattle.number.specs.declared.NumberState.{NumberState}
+use Rattle.refusals.specs.declared.Refusal.{Refusal}
 
 -- the state before the first byte
 abbrev pub Started : Unit {0} → NumberState → Type 0
@@ -27,7 +28,7 @@ abbrev pub FinishedBefore : NumberState → Number → Type 0
 FinishedBefore st r = r ≡ finish_before_of st
 
 -- the number at the front of an input, and how many bytes it took: the rest is the caller's
-abbrev pub TookNumber : List ℕ → NumberRead → Type 0
+abbrev pub TookNumber : List ℕ → Result NumberRead Refusal → Type 0
 TookNumber s r = r ≡ read_of s
 
 -- the number of a whole input: a rest of anything but stops is refused

@@ -1,11 +1,12 @@
 -- #107, numbers inside a line: the number stands before the first stop, and the rest of the input begins with it.
 use Prim.Native.Char.{code}
-use Rattle.std.specs.Prelude.{ℕ, Bool, true, cond, not, ◌&&◌, ◌||◌, List, [], ◌∷◌, length, ◌==◌}
+use Rattle.std.specs.Prelude.{ℕ, Bool, true, cond, not, ◌&&◌, ◌||◌, List, [], ◌∷◌, length, ◌==◌, Result, Ok, Err}
 use Rattle.number.specs.Numbers.{number_of}
 use Rattle.number.specs.declared.Number.{Number}
 use Rattle.number.specs.declared.NumberRead.{NumberRead}
 use Rattle.refusals.specs.Refusals.{bare, passed}
 use Rattle.refusals.specs.declared.Reason.TheVariants.{BadRest}
+use Rattle.refusals.specs.declared.Refusal.{Refusal}
 
 -- "space, tab, carriage return or line feed"
 unfoldable pub is_stop : ℕ → Bool
@@ -30,13 +31,18 @@ unfoldable pub are_stops : List ℕ → Bool
 are_stops [] = true
 are_stops (b ∷ bs) = is_stop b && are_stops bs
 
--- a number that these many bytes stand for; "a refusal still takes 0 bytes"
-abbrev pub taking : Number → ℕ → NumberRead
-taking n bytes = record { value = n.value; taken = cond (passed n.refusal) bytes 0; refusal = n.refusal }
+-- a number that these many bytes stand for, or its refusal, which has none
+abbrev pub taking : Number → ℕ → Result NumberRead Refusal
+taking n bytes = cond (passed n.refusal) (Ok (record { value = n.value; taken = bytes })) (Err n.refusal)
 
 -- the number at the front of an input, "and how many bytes it took"
-unfoldable pub read_of : List ℕ → NumberRead
+unfoldable pub read_of : List ℕ → Result NumberRead Refusal
 read_of s = taking (number_of (before_stop s)) (length (before_stop s))
+
+-- "and how many bytes it took": "a refusal still takes 0 bytes"
+abbrev pub taken_in : Result NumberRead Refusal → ℕ
+taken_in (Ok r) = r.taken
+taken_in (Err f) = 0
 
 -- 23, "a rest that has anything but those four bytes"
 abbrev pub bad_rest : Number

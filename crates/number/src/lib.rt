@@ -1,5 +1,5 @@
-// Reads a number as Rust's library does: an optional "0x", an optional "+", then digits, as far as the first stop (#107), the state after each byte
-// handed on to the next.
+// Reads a number as Rust's library does: an optional "0x", an optional "+", then digits, as far as the first stop
+// (#107), the state after each byte handed on to the next.
 #![tactic(auto)]
 
 ghost use Rattle.std.specs.Prelude.{◌≡◌, ◌<◌, ◌≤◌, false, drop};
@@ -7,10 +7,10 @@ ghost use Rattle.number.specs.Digits.{base_of, digit_of};
 ghost use Rattle.number.specs.Numbers.{in_digits, read_digit, refused};
 ghost use Rattle.number.specs.Promises.{Finished, FinishedBefore, Opened, Parsed, Started, Stepped, TookNumber};
 ghost use Rattle.number.specs.Rest.{are_stops, bad_rest, is_stop, taking, whole_by};
-ghost use Rattle.number.specs.Steps.{DigitsTo, StepsTo, advance_of, end_reason, finish_before_of, hex_at, is_digits, is_remark, lead_of, stage_after, stop_of};
+ghost use Rattle.number.specs.Steps.{DigitsTo, StepsTo, advance_of, end_reason, finish_before_of, lead_of, stage_after};
+ghost use Rattle.number.specs.Steps.{stop_of};
 
 use refusals::{Reason, Refusal};
-use std::num::wrapping_sub_u64;
 
 // All bits but bit 5, in which alone small letters differ from large ones.
 const BUT_CASE: u64 = 0xFFFF_FFFF_FFFF_FFDF;
@@ -19,10 +19,10 @@ const BUT_CASE: u64 = 0xFFFF_FFFF_FFFF_FFDF;
 const SIGN: u8 = b'+';
 
 // The most that a result may be.
-const MOST: u64 = 0xFFFF_FFFF_FFFF_FFFF;
+const MOST: u64 = u64::MAX;
 
 // What the next character may be besides a digit, and behind the number what stands there.
-#[derive(Clone, Copy)]
+#[derive(Clone, Copy, PartialEq, Eq)]
 pub enum Stage {
     // There is no character yet: a "+" may stand, and a "0" may begin "0x".
     Begin,
@@ -40,6 +40,7 @@ pub enum Stage {
 }
 
 // The value so far, the first refusal, the base and the stage. Where something is refused the value is 0.
+// Kept, value and reason side by side: `step` takes any state (`Stepped`), also one that has both.
 #[derive(Clone, Copy)]
 pub struct NumberState {
     pub value: u64,
@@ -49,18 +50,18 @@ pub struct NumberState {
 }
 
 // The value, or the refusal and the value 0.
+// Kept, no Result: `put_number_reply` and others take one with any value beside its refusal (`finish`, `Parsed`).
 #[derive(Clone, Copy)]
 pub struct Number {
     pub value: u64,
     pub refusal: Refusal,
 }
 
-// The number at the front of an input, and how many bytes it took; or the refusal, the value 0 and no bytes.
+// The number at the front of an input, and how many bytes it took.
 #[derive(Clone, Copy)]
 pub struct NumberRead {
     pub value: u64,
     pub taken: usize,
-    pub refusal: Refusal,
 }
 
 // The state after the characters before an offset.
@@ -75,16 +76,7 @@ struct Lead {
 fn is_stop(b: u8) -> bool
     ensures { result ≡ is_stop b }
 {
-    if b == b' ' {
-        return true;
-    }
-    if b == b'\t' {
-        return true;
-    }
-    if b == b'\r' {
-        return true;
-    }
-    b == b'\n'
+    matches!(b, b' ' | b'\t' | b'\r' | b'\n')
 }
 
 fn base_of(hex: bool) -> u64
@@ -93,91 +85,28 @@ fn base_of(hex: bool) -> u64
     if hex { 16 } else { 10 }
 }
 
-// Below the base the result is the digit; otherwise the character is no digit: one before "0" or "A" wraps to a large number. So no
-// branch asks for the range of the character, which a processor cannot predict.
+// Below the base the result is the digit; otherwise the character is no digit: one before "0" or "A" wraps to a large
+// number. So no branch asks for the range of the character, which a processor cannot predict.
 fn digit_of(hex: bool, b: u8) -> u64
     ensures { (result < base_of hex → result ≡ digit_of b) × (base_of hex ≤ result → base_of hex ≤ digit_of b) }
 {
-    if hex {
-        if b'9' < b {
-            return 10 + (wrapping_sub_u64(b as u64, b'A' as u64) & BUT_CASE);
-        }
+    let byte = u64::from(b);
+    if hex && b'9' < b {
+        return 10 + (byte.wrapping_sub(u64::from(b'A')) & BUT_CASE);
     }
-    wrapping_sub_u64(b as u64, b'0' as u64)
+    byte.wrapping_sub(u64::from(b'0'))
 }
 
 #[tactic(auto, unfolding(crate::specs::Steps::stage_after))]
 fn stage_after(stage: Stage, b: u8) -> Stage
     ensures { result ≡ stage_after stage b }
 {
-    match stage {
-        Stage::Begin => {
-            if b == SIGN {
-                return Stage::Sign;
-            }
-            if b == b'0' {
-                return Stage::Zero;
-            }
-            return Stage::Digits;
-        }
-        Stage::Zero => {
-            if b == b'x' {
-                return Stage::Prefix;
-            }
-            return Stage::Digits;
-        }
-        Stage::Prefix => {
-            if b == SIGN {
-                return Stage::Sign;
-            }
-            return Stage::Digits;
-        }
-        Stage::Sign => return Stage::Digits,
-        Stage::Digits => return Stage::Digits,
-        Stage::Stopped => return Stage::Remark,
-        Stage::Remark => return Stage::Remark,
-    }
-}
-
-fn hex_at(stage: Stage, hex: bool) -> bool
-    ensures { result ≡ hex_at stage hex }
-{
-    match stage {
-        Stage::Begin => hex,
-        Stage::Zero => hex,
-        Stage::Prefix => true,
-        Stage::Sign => hex,
-        Stage::Digits => hex,
-        Stage::Stopped => hex,
-        Stage::Remark => hex,
-    }
-}
-
-fn is_digits(stage: Stage) -> bool
-    ensures { result ≡ is_digits stage }
-{
-    match stage {
-        Stage::Begin => false,
-        Stage::Zero => false,
-        Stage::Prefix => false,
-        Stage::Sign => false,
-        Stage::Digits => true,
-        Stage::Stopped => false,
-        Stage::Remark => false,
-    }
-}
-
-fn is_remark(stage: Stage) -> bool
-    ensures { result ≡ is_remark stage }
-{
-    match stage {
-        Stage::Begin => false,
-        Stage::Zero => false,
-        Stage::Prefix => false,
-        Stage::Sign => false,
-        Stage::Digits => false,
-        Stage::Stopped => false,
-        Stage::Remark => true,
+    match (stage, b) {
+        (Stage::Begin | Stage::Prefix, SIGN) => Stage::Sign,
+        (Stage::Begin, b'0') => Stage::Zero,
+        (Stage::Zero, b'x') => Stage::Prefix,
+        (Stage::Stopped | Stage::Remark, _) => Stage::Remark,
+        _ => Stage::Digits,
     }
 }
 
@@ -185,13 +114,9 @@ fn end_reason(stage: Stage, reason: Reason) -> Reason
     ensures { result ≡ end_reason stage reason }
 {
     match stage {
-        Stage::Begin => Reason::Empty,
-        Stage::Zero => reason,
-        Stage::Prefix => Reason::Empty,
+        Stage::Begin | Stage::Prefix => Reason::Empty,
         Stage::Sign => Reason::InvalidDigit,
-        Stage::Digits => reason,
-        Stage::Stopped => reason,
-        Stage::Remark => reason,
+        _ => reason,
     }
 }
 
@@ -219,22 +144,18 @@ impl NumberState {
     fn is_refused(self) -> bool
         ensures { result ≡ refused self.reason }
     {
-        let reason = self.reason;
-        reason.number() != 0
+        self.reason != Reason::None
     }
 
     // The stage that a character leads to; after "0x" the base is 16.
     fn advance(self, b: u8) -> Self
         ensures { result ≡ advance_of self b }
     {
-        let before = self.stage;
-        let stage = stage_after(before, b);
-        let reason = self.reason;
+        let stage = stage_after(self.stage, b);
         Self {
-            value: self.value,
-            reason,
-            hex: hex_at(stage, self.hex),
+            hex: self.hex || stage == Stage::Prefix,
             stage,
+            ..self
         }
     }
 
@@ -244,8 +165,8 @@ impl NumberState {
         Self {
             value,
             reason,
-            hex: self.hex,
             stage: Stage::Digits,
+            ..self
         }
     }
 
@@ -258,33 +179,27 @@ impl NumberState {
         if base <= digit {
             return self.in_digits(0, Reason::InvalidDigit);
         }
-        if MOST / base <= self.value {
-            if (MOST - digit) / base < self.value {
-                return self.in_digits(0, Reason::PosOverflow);
-            }
+        if MOST / base <= self.value && (MOST - digit) / base < self.value {
+            return self.in_digits(0, Reason::PosOverflow);
         }
-        let reason = self.reason;
-        self.in_digits(self.value * base + digit, reason)
+        self.in_digits(self.value * base + digit, self.reason)
     }
 
     // A stop is the number's end: what the end of the input would refuse is refused here.
     fn stop(self) -> Self
         ensures { result ≡ stop_of self }
     {
-        let before = self.stage;
-        if is_remark(before) {
+        if self.stage == Stage::Remark {
             return self;
         }
-        let reason = self.reason;
-        let ended = end_reason(before, reason);
         Self {
-            value: self.value,
-            reason: ended,
-            hex: self.hex,
+            reason: end_reason(self.stage, self.reason),
             stage: Stage::Stopped,
+            ..self
         }
     }
 
+    #[tactic(auto, unfolding(crate::specs::Steps::step_of))]
     pub fn step(mut self, b: u8) -> Self
         ensures { Stepped (self, b) result }
     {
@@ -295,8 +210,7 @@ impl NumberState {
             return self.stop();
         }
         self = self.advance(b);
-        let stage = self.stage;
-        if is_digits(stage) {
+        if self.stage == Stage::Digits {
             return self.read_digit(b);
         }
         self
@@ -306,28 +220,16 @@ impl NumberState {
     pub fn is_open(self) -> bool
         ensures { Opened self result }
     {
-        let stage = self.stage;
-        match stage {
-            Stage::Begin => return false,
-            Stage::Zero => return true,
-            Stage::Prefix => return true,
-            Stage::Sign => return true,
-            Stage::Digits => return true,
-            Stage::Stopped => return true,
-            Stage::Remark => return true,
-        }
+        self.stage != Stage::Begin
     }
 
     // The number before the first stop; the caller passes over the rest.
     pub fn finish_before(self) -> Number
         ensures { FinishedBefore self result }
     {
-        let stage = self.stage;
-        let before = self.reason;
-        let reason = end_reason(stage, before);
         Number {
             value: self.value,
-            refusal: Refusal::carrying(reason, 0),
+            refusal: Refusal::carrying(end_reason(self.stage, self.reason), 0),
         }
     }
 
@@ -335,8 +237,7 @@ impl NumberState {
     pub fn finish(self) -> Number
         ensures { Finished self result }
     {
-        let stage = self.stage;
-        if is_remark(stage) {
+        if self.stage == Stage::Remark {
             return bad_rest();
         }
         self.finish_before()
@@ -347,50 +248,30 @@ impl NumberState {
 fn are_stops(s: &[u8], from: usize) -> bool
     ensures { result ≡ are_stops (drop from s.now) }
 {
-    let mut at = from;
-    while at < s.len() {
-        if !is_stop(s[at]) {
-            return false;
-        }
-        at += 1;
-    }
-    true
+    s.iter().skip(from).all(|b| is_stop(*b))
 }
 
 impl Lead {
-    // The number of a state, which the bytes before its offset stand for. A refusal takes none.
-    fn taking(self) -> NumberRead
+    // The number of a state, which the bytes before its offset stand for.
+    fn taking(self) -> Result<NumberRead, Refusal>
         ensures { result ≡ taking (finish_before_of self.state) self.at }
     {
-        let state = self.state;
-        let number = state.finish_before();
-        let refusal = number.refusal;
-        if refusal.number() != 0 {
-            return NumberRead {
-                value: number.value,
-                taken: 0,
-                refusal,
-            };
-        }
-        NumberRead {
+        let number = self.state.finish_before();
+        number.refusal.check()?;
+        Ok(NumberRead {
             value: number.value,
             taken: self.at,
-            refusal,
-        }
+        })
     }
 
-    // The number of a state, of which the whole input is said: what stands from its offset on is looked at where the number itself is not refused.
+    // The number of a state, of which the whole input is said: what stands from its offset on is looked at where the
+    // number itself is not refused.
     fn whole(self, s: &[u8]) -> Number
         ensures { result ≡ whole_by (finish_before_of self.state) (are_stops (drop self.at s.now)) }
     {
-        let state = self.state;
-        let at = self.at;
-        let number = state.finish_before();
-        let refusal = number.refusal;
-        if refusal.number() == 0 {
-            if !are_stops(s, at) {
-                return bad_rest();
-            }
+        let number = self.state.finish_before();
+        if !number.refusal.is_refused() && !are_stops(s, self.at) {
+            return bad_rest();
         }
         number
     }
@@ -401,65 +282,62 @@ fn read_before(s: &[u8]) -> Lead
     ensures { StepsTo s.now result }
 {
     let mut state = NumberState::start();
-    let mut at: usize = 0;
-    while at < s.len() {
-        let b = s[at];
-        if is_stop(b) {
+    for (at, b) in s.iter().enumerate() {
+        if is_stop(*b) {
             return Lead { state, at };
         }
-        state = state.step(b);
-        at += 1;
+        state = state.step(*b);
     }
-    Lead { state, at }
+    Lead { state, at: s.len() }
 }
 
-pub fn read_number(s: &[u8]) -> NumberRead
+pub fn read_number(s: &[u8]) -> Result<NumberRead, Refusal>
     ensures { TookNumber s.now result }
 {
     read_before(s).taking()
 }
 
 // Takes one character, if there is one that stands before the digits. A stop does not.
+#[tactic(auto, unfolding(crate::specs::Steps::lead_of))]
 fn take_lead(from: Lead, s: &[u8]) -> Lead
     ensures { result ≡ lead_of from (drop from.at s.now) }
 {
-    let at = from.at;
-    if s.len() <= at {
+    let Some(b) = s.get(from.at) else {
+        return from;
+    };
+    let state = from.state.advance(*b);
+    if state.stage == Stage::Digits {
         return from;
     }
-    let before = from.state;
-    let state = before.advance(s[at]);
-    let stage = state.stage;
-    if is_digits(stage) {
-        return from;
+    Lead {
+        state,
+        at: from.at + 1,
     }
-    Lead { state, at: at + 1 }
 }
 
-// It ends at a stop, or at a refusal, since the characters after the first offender change nothing. Whether a character is a stop is asked only where it is
-// no digit: a stop is none.
+// It ends at a stop, or at a refusal, since the characters after the first offender change nothing. Whether a character
+// is a stop is asked only where it is no digit: a stop is none.
 fn read_digits(from: Lead, s: &[u8]) -> Lead
     requires { refused from.state.reason ≡ false }
     ensures { DigitsTo from (drop from.at s.now) result }
 {
     let mut state = from.state;
-    let mut at = from.at;
-    while at < s.len() {
+    for at in from.at..s.len() {
         let next = state.read_digit(s[at]);
         if next.is_refused() {
-            if is_stop(s[at]) {
-                return Lead { state, at };
-            }
-            return Lead { state: next, at };
+            let last = if is_stop(s[at]) { state } else { next };
+            return Lead { state: last, at };
         }
         state = next;
-        at += 1;
     }
-    Lead { state, at }
+    Lead {
+        state,
+        at: from.at.max(s.len()),
+    }
 }
 
-// What a step for each byte gives, but quicker. At most three characters stand before the digits: "0x+". The digits are read in a loop of their own, which
-// is compiled once for each base, where the base is a constant.
+// What a step for each byte gives, but quicker. At most three characters stand before the digits: "0x+". The digits are
+// read in a loop of their own, which is compiled once for each base, where the base is a constant.
 pub fn parse_number(s: &[u8]) -> Number
     ensures { Parsed s.now result }
 {
@@ -468,8 +346,7 @@ pub fn parse_number(s: &[u8]) -> Number
         at: 0,
     };
     let last = take_lead(take_lead(take_lead(start, s), s), s);
-    let state = last.state;
-    if state.hex {
+    if last.state.hex {
         return read_digits(last, s).whole(s);
     }
     read_digits(last, s).whole(s)

@@ -1,5 +1,5 @@
--- Whether a run is full, what the end of a line leaves, and one turn of the loop over a part of the input, by what the definitions compute; the bytes of
--- one line are taken at once, by induction over them.
+-- Whether a run is full, what the end of a line leaves, and one turn of the loop over a part of the input, by what the
+-- definitions compute; the bytes of one line are taken at once, by induction over them.
 use Prim.Native.Nat.{ℕ, suc, ◌+◌, ◌-◌, ◌≤◌, ◌<◌}
 use mathlib.Core.Bool.{Bool, true, false, cond}
 use mathlib.Core.List.{List, [], ◌∷◌}
@@ -22,16 +22,12 @@ use Rattle.refusals.specs.Refusals.{passed}
 
 -- Whether a run is full, without the sum of both counts.
 
-module _ (places numbers none : ℕ) where
-  pub full_of_numbers : places ≤ numbers → true ≡ leb places (numbers + none)
-  full_of_numbers h = sym (le-leb places (numbers + none) (omega arith))
-
-  pub full_of_both : numbers < places → leb (places - numbers) none ≡ leb places (numbers + none)
-  full_of_both h = by-test (leb places (numbers + none)) refl
-    where
-      by-test : (b : Bool) → leb places (numbers + none) ≡ b → leb (places - numbers) none ≡ b
-      by-test true e = let l = leb-true places (numbers + none) e in le-leb (places - numbers) none (omega arith)
-      by-test false e = let l = leb-false places (numbers + none) e in lt-leb (places - numbers) none (omega arith)
+pub full_of_both : (places numbers none : ℕ) → leb (places - numbers) none ≡ leb places (numbers + none)
+full_of_both places numbers none = by-test (leb places (numbers + none)) refl
+  where
+    by-test : (b : Bool) → leb places (numbers + none) ≡ b → leb (places - numbers) none ≡ b
+    by-test true e = let l = leb-true places (numbers + none) e in le-leb (places - numbers) none (omega arith)
+    by-test false e = let l = leb-false places (numbers + none) e in lt-leb (places - numbers) none (omega arith)
 
 -- The end of a line.
 

@@ -1,4 +1,5 @@
-// The numbers of a run of lines, a line at a time and a part of the input at a time: as many lines as the lent run has places, so that each has one.
+// The numbers of a run of lines, a line at a time and a part of the input at a time: as many lines as the lent run has
+// places, so that each has one.
 #![tactic(auto)]
 
 ghost use Rattle.number_lines.specs.Promises.{Filled, LastTaken, LinesTaken, Started};
@@ -38,46 +39,38 @@ impl Lines {
     pub fn is_full(self, places: usize) -> bool
         ensures { Filled (self, places) result }
     {
-        if places <= self.numbers {
-            return true;
-        }
-        places - self.numbers <= self.none
+        places.saturating_sub(self.numbers) <= self.none
     }
 
     fn on_line(self, line: NumberState) -> Self
         ensures { result ≡ on_line self line }
     {
-        Self {
-            line,
-            numbers: self.numbers,
-            none: self.none,
-        }
+        Self { line, ..self }
     }
 }
 
 // The line has ended: its number goes to the run's next place, or it held none.
+#[tactic(auto, unfolding(crate::specs::Runs::end_line))]
 fn end_line(from: Lines, run: &mut [u64]) -> Lines
     ensures { (result, run.new) ≡ end_line from run.old }
 {
     if from.is_full(run.len()) {
         return from;
     }
-    let line = from.line;
-    let number = line.finish_before();
-    let refusal = number.refusal;
+    let number = from.line.finish_before();
     let at = from.numbers;
-    if refusal.number() != 0 {
+    if number.refusal.is_refused() {
         return Lines {
             line: NumberState::start(),
-            numbers: at,
             none: from.none + 1,
+            ..from
         };
     }
     run[at] = number.value;
     Lines {
         line: NumberState::start(),
         numbers: at + 1,
-        none: from.none,
+        ..from
     }
 }
 
@@ -87,14 +80,13 @@ pub fn take_lines(from: Lines, part: &[u8], at: usize, run: &mut [u64]) -> Lines
 {
     let mut lines = from;
     let mut next = at;
+    // Kept: no plainer, each line gives the next offset
     while next < part.len() {
         if lines.is_full(run.len()) {
             return LinesPart { lines, next };
         }
-        let line = lines.line;
-        let taken = take_line(line, part, next);
-        let state = taken.state;
-        lines = lines.on_line(state);
+        let taken = take_line(lines.line, part, next);
+        lines = lines.on_line(taken.state);
         next = taken.next;
         if !taken.ended {
             return LinesPart { lines, next };
@@ -105,11 +97,11 @@ pub fn take_lines(from: Lines, part: &[u8], at: usize, run: &mut [u64]) -> Lines
 }
 
 // A last line without a line feed is one if it has a character.
+#[tactic(auto, unfolding(crate::specs::Runs::take_last))]
 pub fn take_last(from: Lines, run: &mut [u64]) -> Lines
     ensures { LastTaken (from, run.old) (result, run.new) }
 {
-    let line = from.line;
-    if line.is_open() {
+    if from.line.is_open() {
         return end_line(from, run);
     }
     from

@@ -3,18 +3,23 @@
 use Prim.Native.Nat.{ℕ, zero, suc, ◌+◌, ◌-◌, ◌≤◌, ◌<◌}
 use mathlib.Core.Bool.{Bool, true, false, cond}
 use mathlib.Core.List.{List}
-use mathlib.Core.Path.{◌≡◌, refl, sym, subst}
+use mathlib.Core.Path.{◌≡◌, refl, ap, subst, ◌∙◌}
 use native.Mathlib.Omega.{arith}
 use borrow.Author.Tests.{lt-ltb, le-ltb, eq-eqb, ne_eqb, ltb-true, ltb-false}
 use lib.Dec.{eqb, ltb}
 use lib.ListN.{length, get_or, take, drop, length-take, length-drop, get_or-eq_default}
 use lib.Seq.{get_or-take, get_or-drop}
-use Rattle.entry.specs.Entries.{Part}
-use Rattle.phrases.specs.Sheets.{word_at, body_of, window, Phrase, Phrases, ends, phrase, code_in, count_in, phrases_from, phrases_of, fault, judged, judged_both, place_of, place_in, nowhere, in_sheet, find_in, InSheet, both_sound, part_of, no_part, part_found, phrase_in}
+use Rattle.phrases.specs.Sheets.{word_at, body_of, window, Phrase, Phrases, ends, phrase, code_in, count_in, phrases_from, phrases_of, fault, judged, place_of, place_in, first_of, find_in, of_sheet, InSheet}
 use Rattle.phrases.specs.declared.Found.{Found}
 use Rattle.phrases.specs.declared.Place.{Place}
-use Rattle.refusals.specs.Refusals.{reason_number}
+use Rattle.phrases.specs.declared.Sheet.{Sheet}
+use Rattle.phrases.specs.declared.Sheet.TheVariants.{Workshop, Standard}
+use Rattle.refusals.specs.Refusals.{bare, is_refused, passed}
+use Rattle.refusals.specs.declared.Reason.{Reason}
 use Rattle.refusals.specs.declared.Reason.TheVariants.{None, ShortSheet, BadSheetVersion, LongPhrase}
+use Rattle.refusals.specs.declared.Refusal.{Refusal}
+use Rattle.refusals.proofs.Cases.{passed-is, refused-is}
+use Rattle.std.specs.Prelude.{Option, Some, None as Nothing, IfSome}
 
 -- The judgement.
 
@@ -41,34 +46,32 @@ module _ (s : List ℕ) (n : ℕ) (e : n ≡ word_at s 0) (two : 2 ≤ length s)
       unfolding judged
       judged_phrases v = rw (← e) (simp (le-ltb _ _ two, ne_eqb _ _ some, le-ltb _ _ whole, eq-eqb _ _ v))
 
--- Of two sheets.
+-- Whether sheets are sound, by whether the code found their refusal to be one.
 
-module _ (workshop standard : List ℕ) where
-  pub both_first : (reason_number (judged workshop) ≡ 0 → ⊥) → judged_both workshop standard ≡ judged workshop
-  unfolding judged_both
-  both_first h = rw (ne_eqb (reason_number (judged workshop)) 0 h)
+module _ {f : Refusal} {refused : Bool} {why : Reason} (is : f ≡ bare why) (by : refused ≡ is_refused f) where
+  pub sound_by : refused ≡ false → passed (bare why) ≡ true
+  sound_by h = passed-is (bare why) (by ∙ ap is_refused is) h
 
-  pub both-second : reason_number (judged workshop) ≡ 0 → judged_both workshop standard ≡ judged standard
-  unfolding judged_both
-  both-second h = rw (eq-eqb (reason_number (judged workshop)) 0 h)
+  pub unsound-by : refused ≡ true → passed (bare why) ≡ false
+  unsound-by h = refused-is (bare why) (by ∙ ap is_refused is) h
 
 -- Where a phrase lies: what holds of each whole phrase, by what is left before it, holds of the one that is found.
 
-module _ (Holds : Place → Type 0) (none : Holds nowhere) (Left : ℕ → List ℕ → Type 0)
+module _ (Holds : Place → Type 0) (Left : ℕ → List ℕ → Type 0)
     (each : (at : ℕ) (rest : List ℕ) → Left at rest → 3 + count_in rest ≤ length rest
-    → Holds (record { start = at + 3; count = count_in rest; found = true }) × Left (at + 3 + count_in rest) (drop (3 + count_in rest) rest)) where
-  or_later : (code : ℕ) (p : Phrase) (ps : Phrases) → Holds (record { start = p.start; count = p.count; found = true }) → Holds (place_of code ps)
-      → Holds (place_of code (phrase p ps))
+    → Holds (record { start = at + 3; count = count_in rest }) × Left (at + 3 + count_in rest) (drop (3 + count_in rest) rest)) where
+  or_later : (code : ℕ) (p : Phrase) (ps : Phrases) → Holds (record { start = p.start; count = p.count })
+      → IfSome (place_of code ps) Holds → IfSome (place_of code (phrase p ps)) Holds
   unfolding place_of
   or_later code p ps here later = by (eqb p.code code)
     where
-      by : (b : Bool) → Holds (cond b (record { start = p.start; count = p.count; found = true }) (place_of code ps))
+      by : (b : Bool) → IfSome (cond b (Some (record { start = p.start; count = p.count })) (place_of code ps)) Holds
       by true = here
       by false = later
 
-  place-by : (n at : ℕ) (rest : List ℕ) (code : ℕ) → Left at rest → Holds (place_of code (phrases_from n at rest))
+  place-by : (n at : ℕ) (rest : List ℕ) (code : ℕ) → Left at rest → IfSome (place_of code (phrases_from n at rest)) Holds
   unfolding phrases_from place_of
-  place-by zero at rest code h = none
+  place-by zero at rest code h = tt
   place-by (suc n) at rest code h =
       by (eqb (length rest) 0) (ltb (length rest) 3) (ltb (length rest) (3 + count_in rest)) refl
       (λ l. place-by n (at + 3 + count_in rest) (drop (3 + count_in rest) rest) code l)
@@ -77,32 +80,32 @@ module _ (Holds : Place → Type 0) (none : Holds nowhere) (Left : ℕ → List 
       later = phrases_from n (at + 3 + count_in rest) (drop (3 + count_in rest) rest)
 
       by : (a b d : Bool) → ltb (length rest) (3 + count_in rest) ≡ d
-          → (Left (at + 3 + count_in rest) (drop (3 + count_in rest) rest) → Holds (place_of code later))
-          → Holds (place_of code (cond a (ends None) (cond b (ends ShortSheet) (cond d (ends LongPhrase)
-          (phrase (record { code = code_in rest; start = at + 3; count = count_in rest }) later)))))
-      by true b d e more = none
-      by false true d e more = none
-      by false false true e more = none
+          → (Left (at + 3 + count_in rest) (drop (3 + count_in rest) rest) → IfSome (place_of code later) Holds)
+          → IfSome (place_of code (cond a (ends None) (cond b (ends ShortSheet) (cond d (ends LongPhrase)
+          (phrase (record { code = code_in rest; start = at + 3; count = count_in rest }) later))))) Holds
+      by true b d e more = tt
+      by false true d e more = tt
+      by false false true e more = tt
       by false false false e more =
           let this = each at rest h (ltb-false (length rest) (3 + count_in rest) e) in
           or_later code (record { code = code_in rest; start = at + 3; count = count_in rest }) later this.0 (more this.1)
 
-  pub found-by : (s : List ℕ) (code : ℕ) → Left 3 (body_of s) → Holds (place_in s code)
+  pub found-by : (s : List ℕ) (code : ℕ) → Left 3 (body_of s) → IfSome (place_in s code) Holds
   unfolding place_in
   found-by s code h = place-by (length (body_of s)) 3 (body_of s) code h
 
 -- it lies inside its sheet
-pub inside : (s : List ℕ) (code : ℕ) → (place_in s code).start + (place_in s code).count ≤ length s
+pub inside : (s : List ℕ) (code : ℕ) → IfSome (place_in s code) (λ p. p.start + p.count ≤ length s)
 inside s code =
-    found-by (λ p. p.start + p.count ≤ length s) (omega arith) (λ at rest. 0 < length rest → at + length rest ≤ length s)
+    found-by (λ p. p.start + p.count ≤ length s) (λ at rest. 0 < length rest → at + length rest ≤ length s)
     (λ at rest h fits. (omega (arith, h (omega arith)), (λ some. omega (arith, h (omega arith), length-drop (3 + count_in rest) rest))))
     s code
     (λ some. omega (arith, length-take (2 + word_at s 0 - 3) (drop 3 s), length-drop 3 s))
 
 -- and is counted by a byte
-pub counted : (s : List ℕ) → ((i : ℕ) → get_or s i 0 < 256) → (code : ℕ) → (place_in s code).count < 256
+pub counted : (s : List ℕ) → ((i : ℕ) → get_or s i 0 < 256) → (code : ℕ) → IfSome (place_in s code) (λ p. p.count < 256)
 counted s small code =
-    found-by (λ p. p.count < 256) (omega arith) (λ at rest. (i : ℕ) → get_or rest i 0 < 256)
+    found-by (λ p. p.count < 256) (λ at rest. (i : ℕ) → get_or rest i 0 < 256)
     (λ at rest h fits. (h 2, (λ i. rw (get_or-drop (3 + count_in rest) rest i 0) (h (3 + count_in rest + i)))))
     s code (small-take (2 + word_at s 0 - 3) (drop 3 s) (λ i. rw (get_or-drop 3 s i 0) (small (3 + i))))
   where
@@ -115,47 +118,26 @@ counted s small code =
             let past : length (take n l) ≤ i = omega (arith, length-take n l, ltb-false i n e) in
             rw (get_or-eq_default (take n l) 0 past) (omega arith)
 
--- Of two sheets: by which sheet has the code.
+-- Of two sheets.
 
 module _ (workshop standard : List ℕ) (code : ℕ) where
-  pub find_first : (place_in workshop code).found ≡ true → find_in workshop standard code ≡ in_sheet 1 (place_in workshop code)
+  found-within : IfSome (find_in workshop standard code) (InSheet workshop standard)
   unfolding find_in
-  find_first h = rw h
-
-  pub find_second : (place_in workshop code).found ≡ false → (place_in standard code).found ≡ true → find_in workshop standard code ≡ in_sheet 2 (place_in standard code)
-  unfolding find_in
-  find_second h g = rw (h, g)
-
-  pub find_neither : (place_in workshop code).found ≡ false → (place_in standard code).found ≡ false → find_in workshop standard code ≡ in_sheet 0 nowhere
-  unfolding find_in
-  find_neither h g = rw (h, g)
-
-  pub found_inside : {f : Found} → f ≡ find_in workshop standard code → InSheet workshop standard f
-  unfolding find_in
-  found_inside is = subst (InSheet workshop standard) (sym is) (by (place_in workshop code).found (place_in standard code).found)
+  found-within =
+      by (place_in workshop code) (place_in standard code) (inside workshop code) (inside standard code)
     where
-      by : (a b : Bool) → InSheet workshop standard (cond a (in_sheet 1 (place_in workshop code)) (cond b (in_sheet 2 (place_in standard code)) (in_sheet 0 nowhere)))
-      by true b = ((λ e. inside workshop code), (λ e. absurd (omega arith)))
-      by false true = ((λ e. absurd (omega arith)), (λ e. inside standard code))
-      by false false = ((λ e. omega arith), (λ e. omega arith))
+      by : (p q : Option Place) → IfSome p (λ p. p.start + p.count ≤ length workshop)
+          → IfSome q (λ p. p.start + p.count ≤ length standard) → IfSome (first_of p q) (InSheet workshop standard)
+      by (Some p) q h g = h
+      by Nothing (Some q) h g = g
+      by Nothing Nothing h g = tt
 
--- The part that is handed back.
+  module _ {f : Found} (is : find_in workshop standard code ≡ Some f) where
+    pub found_inside : InSheet workshop standard f
+    found_inside = subst (λ (o : Option Found). IfSome o (InSheet workshop standard)) is found-within
 
-module _ (workshop standard : Part) (code : ℕ) where
-  pub phrase-refused : both_sound workshop.bytes standard.bytes ≡ false → phrase_in workshop standard code ≡ no_part workshop
-  unfolding phrase_in
-  phrase-refused h = rw h
+    pub inside_workshop : f.sheet ≡ Workshop → f.start + f.count ≤ length workshop
+    inside_workshop e = subst (λ (s : Sheet). f.start + f.count ≤ length (of_sheet workshop standard s)) e found_inside
 
-  module _ {f : Found} (is : f ≡ find_in workshop.bytes standard.bytes code) (sound : both_sound workshop.bytes standard.bytes ≡ true) where
-    pub phrase-first : f.sheet ≡ 1 → phrase_in workshop standard code ≡ part_of workshop f
-    unfolding phrase_in part_found
-    phrase-first h = rw (sound, ← is, eq-eqb f.sheet 1 h)
-
-    module _ (not_first : f.sheet ≡ 1 → ⊥) where
-      pub phrase-second : f.sheet ≡ 2 → phrase_in workshop standard code ≡ part_of standard f
-      unfolding phrase_in part_found
-      phrase-second h = rw (sound, ← is, ne_eqb f.sheet 1 not_first, eq-eqb f.sheet 2 h)
-
-      pub phrase-none : (f.sheet ≡ 2 → ⊥) → phrase_in workshop standard code ≡ no_part workshop
-      unfolding phrase_in part_found
-      phrase-none h = rw (sound, ← is, ne_eqb f.sheet 1 not_first, ne_eqb f.sheet 2 h)
+    pub inside_standard : f.sheet ≡ Standard → f.start + f.count ≤ length standard
+    inside_standard e = subst (λ (s : Sheet). f.start + f.count ≤ length (of_sheet workshop standard s)) e found_inside

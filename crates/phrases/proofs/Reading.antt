@@ -16,6 +16,7 @@ use Rattle.phrases.specs.Writing.{word_bytes, phrase_bytes, phrases_bytes, sheet
 use Rattle.phrases.proofs.Laws.{one-phrase}
 use Rattle.phrases.proofs.Cases.{judged_phrases}
 use Rattle.refusals.specs.declared.Reason.TheVariants.{None}
+use Rattle.std.specs.Prelude.{Some}
 
 -- a two-byte number is read back
 word_back : (n : ℕ) → n / 256 * 256 + n % 256 ≡ n
@@ -65,7 +66,8 @@ back pre ((c, text) ∷ ps) more code =
 
     by : (b : Bool)
         → text_of ((pre ++ phrase_bytes (c, text)) ++ (rest ++ more)) (place_of code (phrases_of (length (pre ++ phrase_bytes (c, text))) rest)) ≡ look_up code ps
-        → text_of s (cond b (record { start = length pre + 3; count = length text; found = true }) (place_of code (phrases_of (length pre + 3 + length text) rest)))
+        → text_of s (cond b (Some (record { start = length pre + 3; count = length text }))
+        (place_of code (phrases_of (length pre + 3 + length text) rest)))
         ≡ cond b (found text) (look_up code ps)
     by true ih = ap found here
     by false ih = rw (whole, ← next) ih

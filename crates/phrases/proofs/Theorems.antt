@@ -1,7 +1,7 @@
 -- What the promises come to, in 02's words: which sheet a phrase comes from, how a missing phrase differs from an empty one, and that bytes past
 -- a sheet's length are not read. By cases of what the sheets have.
 use Prim.Native.Nat.{ℕ, ◌+◌, ◌-◌, ◌*◌, ◌≤◌, ◌<◌}
-use mathlib.Core.Bool.{Bool, true, false, cond, not}
+use mathlib.Core.Bool.{Bool, true, false}
 use mathlib.Core.List.{List, [], ◌++◌}
 use mathlib.Core.Path.{◌≡◌, refl, sym, ap, ap₂, ◌∙◌}
 use native.Mathlib.Omega.{arith}
@@ -10,9 +10,10 @@ use lib.Dec.{eqb, ltb}
 use lib.ListN.{length, get_or, take, drop, length-append, length-take, length-drop, get_or-append}
 use lib.Seq.{take-append-le, drop-append-le}
 use Rattle.entry.specs.Entries.{Part}
-use Rattle.phrases.specs.Sheets.{word_at, window, body_of, phrases_of, fault, judged, place_of, place_in, nowhere, in_sheet, find_in, Text, missing, found, text_of, or_else, text_from, text_in, both_sound, has_phrase, part_at, part_found, phrase_in}
+use Rattle.phrases.specs.Sheets.{word_at, window, body_of, phrases_of, fault, judged, place_of, place_in, first_of, find_in, of_sheet, Text, missing, found, text_of, or_else, text_from, text_in, both_sound, has_phrase, part_found, phrase_in}
 use Rattle.phrases.specs.declared.Found.{Found}
 use Rattle.phrases.specs.declared.Place.{Place}
+use Rattle.std.specs.Prelude.{Option, Some, None as Nothing, IfSome, is_some}
 use Rattle.phrases.proofs.Cases.{inside, counted, judged-zero, judged_version, judged_phrases}
 
 -- "the phrase comes from the workshop's sheet if the code is there, otherwise from the standard sheet"
@@ -28,28 +29,18 @@ module _ (workshop standard : List ℕ) (code : ℕ) where
 
 -- What two sheets have under a code, by where it is found: what a listing with sheets writes.
 
-abbrev pub Says : List ℕ → List ℕ → Found → Text → Type 0
-Says workshop standard f t =
-    (f.sheet ≡ 0 → t ≡ missing)
-    × (f.sheet ≡ 1 → t ≡ found (take f.count (drop f.start workshop)))
-    × ((f.sheet ≡ 0 → ⊥) → (f.sheet ≡ 1 → ⊥) → (f.sheet ≡ 2) × (t ≡ found (take f.count (drop f.start standard))))
+abbrev pub said_by : List ℕ → List ℕ → Option Found → Text
+said_by workshop standard (Some f) = found (take f.count (drop f.start (of_sheet workshop standard f.sheet)))
+said_by workshop standard Nothing = missing
 
-pub told : (workshop standard : List ℕ) (code : ℕ) → Says workshop standard (find_in workshop standard code) (text_in workshop standard code)
+pub told : (workshop standard : List ℕ) (code : ℕ) → text_in workshop standard code ≡ said_by workshop standard (find_in workshop standard code)
 unfolding find_in text_in text_of or_else
-told workshop standard code = by (place_in workshop code).found (place_in standard code).found
+told workshop standard code = by (place_in workshop code) (place_in standard code)
   where
-    p : Place
-    p = place_in workshop code
-
-    q : Place
-    q = place_in standard code
-
-    by : (a b : Bool)
-        → Says workshop standard (cond a (in_sheet 1 p) (cond b (in_sheet 2 q) (in_sheet 0 nowhere)))
-        (or_else (cond a (found (take p.count (drop p.start workshop))) missing) (cond b (found (take q.count (drop q.start standard))) missing))
-    by true b = ((λ e. absurd (omega arith)), (λ e. refl), (λ g h. absurd (h refl)))
-    by false true = ((λ e. absurd (omega arith)), (λ e. absurd (omega arith)), (λ g h. (refl, refl)))
-    by false false = ((λ e. refl), (λ e. absurd (omega arith)), (λ g h. absurd (g refl)))
+    by : (p q : Option Place) → or_else (text_of workshop p) (text_of standard q) ≡ said_by workshop standard (first_of p q)
+    by (Some p) q = refl
+    by Nothing (Some q) = refl
+    by Nothing Nothing = refl
 
 -- "A code in neither gives an empty part and a no, which differs from an empty phrase": of sound sheets, what the two calls answer together.
 
@@ -67,23 +58,14 @@ module _ (workshop standard : Part) (code : ℕ) (sound : both_sound workshop.by
 
   pub answer_and_part : Both (text_in workshop.bytes standard.bytes code)
   unfolding has_phrase phrase_in part_found find_in text_in text_of or_else
-  answer_and_part = rw sound (by (place_in workshop.bytes code).found (place_in standard.bytes code).found)
+  answer_and_part = rw sound (by (place_in workshop.bytes code) (place_in standard.bytes code))
     where
-      p : Place
-      p = place_in workshop.bytes code
-
-      q : Place
-      q = place_in standard.bytes code
-
-      f : Bool → Bool → Found
-      f a b = cond a (in_sheet 1 p) (cond b (in_sheet 2 q) (in_sheet 0 nowhere))
-
-      by : (a b : Bool) → let t : Text = or_else (cond a (found (take p.count (drop p.start workshop.bytes))) missing) (cond b (found (take q.count (drop q.start standard.bytes))) missing) in
-          (not (eqb (f a b).sheet 0) ≡ is_found t)
-          × ((cond (eqb (f a b).sheet 1) (part_at workshop (f a b).start (f a b).count) (cond (eqb (f a b).sheet 2) (part_at standard (f a b).start (f a b).count) (part_at workshop 0 0))).bytes ≡ bytes_of t)
-      by true b = (refl, refl)
-      by false true = (refl, refl)
-      by false false = (refl, refl)
+      by : (p q : Option Place)
+          → let t : Text = or_else (text_of workshop.bytes p) (text_of standard.bytes q) in
+          (is_some (first_of p q) ≡ is_found t) × ((part_found workshop standard (first_of p q)).bytes ≡ bytes_of t)
+      by (Some p) q = (refl, refl)
+      by Nothing (Some q) = (refl, refl)
+      by Nothing Nothing = (refl, refl)
 
 -- "Bytes past a sheet's length are not read": a sheet that is as long as it asks says the same with more bytes behind it.
 
@@ -136,11 +118,13 @@ module _ (s more : List ℕ) (whole : 2 + word_at s 0 ≤ length s) where
   -- so it has the same texts
   pub unread_text : (code : ℕ) → text_from (s ++ more) code ≡ text_from s code
   unfolding text_of
-  unread_text code =
-      let p : Place = place_in s code in
-      let fits : p.start + p.count ≤ length s = inside s code in
-      let kept : p.count ≤ length (drop p.start s) = omega (arith, length-drop p.start s) in
-      rw (unread_place code, drop-append-le p.start s more (omega arith), take-append-le p.count (drop p.start s) more kept)
+  unread_text code = rw (unread_place code) (by (place_in s code) (inside s code))
+    where
+      by : (p : Option Place) → IfSome p (λ p. p.start + p.count ≤ length s) → text_of (s ++ more) p ≡ text_of s p
+      by Nothing fits = refl
+      by (Some p) fits =
+          let kept : p.count ≤ length (drop p.start s) = omega (arith, length-drop p.start s) in
+          rw (drop-append-le p.start s more (omega arith), take-append-le p.count (drop p.start s) more kept)
 
 -- A text of a sheet of bytes is at most 255 bytes long.
 
@@ -154,14 +138,11 @@ Bytes s = (i : ℕ) → get_or s i 0 < 256
 
 short-from : (s : List ℕ) → Bytes s → (code : ℕ) → Short (text_from s code)
 unfolding text_of
-short-from s small code = by (place_in s code).found
+short-from s small code = by (place_in s code) (counted s small code)
   where
-    p : Place
-    p = place_in s code
-
-    by : (b : Bool) → Short (cond b (found (take p.count (drop p.start s))) missing)
-    by true = omega (arith, length-take p.count (drop p.start s), counted s small code)
-    by false = tt
+    by : (p : Option Place) → IfSome p (λ p. p.count < 256) → Short (text_of s p)
+    by (Some p) h = omega (arith, length-take p.count (drop p.start s))
+    by Nothing h = tt
 
 pub short_in : (workshop standard : List ℕ) → Bytes workshop → Bytes standard → (code : ℕ) → Short (text_in workshop standard code)
 unfolding text_in or_else

@@ -1,5 +1,5 @@
 -- What each public function promises. A promise takes what comes in, then what comes out.
-use Rattle.std.specs.Prelude.{ℕ, Bool, List, ◌≡◌}
+use Rattle.std.specs.Prelude.{ℕ, Bool, List, Option, ◌≡◌}
 use Rattle.entry.specs.Entries.{Part}
 use Rattle.phrases.specs.Sheets.{judged, judged_both, find_in, has_phrase, phrase_in}
 use Rattle.phrases.specs.declared.Found.{Found}
@@ -14,7 +14,7 @@ abbrev pub SheetsRefusal : List ℕ × List ℕ → Refusal → Type 0
 SheetsRefusal (workshop, standard) r = r ≡ bare (judged_both workshop standard)
 
 -- where the phrase of a code lies
-abbrev pub Finds : List ℕ × List ℕ × ℕ → Found → Type 0
+abbrev pub Finds : List ℕ × List ℕ × ℕ → Option Found → Type 0
 Finds (workshop, standard, code) r = r ≡ find_in workshop standard code
 
 -- whether there is a phrase, and the part of a sheet that is handed back: where it lies, and what it holds

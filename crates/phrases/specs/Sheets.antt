@@ -1,9 +1,12 @@
 -- #112: "A sheet has two bytes of length (bytes that follow), big-endian, one version byte 1, then phrases, each of a two-byte text code, a
 -- one-byte count and that many bytes, codes strictly rising."
-use Rattle.std.specs.Prelude.{ℕ, zero, suc, ◌+◌, ◌-◌, ◌*◌, ◌≤◌, Bool, true, false, cond, not, ◌&&◌, List, ◌≡◌, eqb, ltb, length, get_or, take, drop}
+use Rattle.std.specs.Prelude.{ℕ, zero, suc, ◌+◌, ◌-◌, ◌*◌, ◌<◌, ◌≤◌, Bool, cond, not, ◌&&◌, List, ◌≡◌, eqb, ltb, length, get_or, take, drop}
+use Rattle.std.specs.Prelude.{Option, Some, None as Nothing, Result, Ok, Err, is_some, option_map}
 use Rattle.entry.specs.Entries.{Part}
 use Rattle.phrases.specs.declared.Found.{Found}
 use Rattle.phrases.specs.declared.Place.{Place}
+use Rattle.phrases.specs.declared.Sheet.{Sheet}
+use Rattle.phrases.specs.declared.Sheet.TheVariants.{Workshop, Standard}
 use Rattle.refusals.specs.Refusals.{bare, passed, reason_number}
 use Rattle.refusals.specs.declared.Reason.{Reason}
 use Rattle.refusals.specs.declared.Reason.TheVariants.{None, ShortSheet, BadSheetVersion, LongPhrase, CodeNotRising}
@@ -21,6 +24,11 @@ window at end s = take (end - at) (drop at s)
 -- the bytes of the phrases: after the version, as many as the length says. "Bytes past a sheet's length are not read."
 abbrev pub body_of : List ℕ → List ℕ
 body_of s = window 3 (2 + word_at s 0) s
+
+-- a reason as an error
+abbrev pub sound_unless : Reason → Result Unit Reason
+sound_unless None = Ok tt
+sound_unless why = Err why
 
 -- Its phrases, one after the other.
 
@@ -58,6 +66,16 @@ phrases_of at rest = phrases_from (length rest) at rest
 abbrev pub phrases_in : List ℕ → Phrases
 phrases_in s = phrases_of 3 (body_of s)
 
+-- what an offset says of the phrases between it and another: their first, by its code and its place, and where the next
+-- one begins; or why they end. No promise rests on this: two private functions read a sheet by it
+abbrev pub Front : List ℕ → ℕ → ℕ → Result (ℕ × Place) Reason → Type 0
+Front s at end (Ok (code, p)) =
+    (at < p.start + p.count) × (p.start + p.count ≤ end)
+    × (phrases_of at (window at end s)
+    ≡ phrase (record { code = code; start = p.start; count = p.count })
+    (phrases_of (p.start + p.count) (window (p.start + p.count) end s)))
+Front s at end (Err why) = (phrases_of at (window at end s) ≡ ends why) × (sound_unless why ≡ Err why)
+
 -- When a sheet is refused.
 
 -- phrase by phrase: "29 for a code not rising", where the next code must be this at least
@@ -81,30 +99,34 @@ judged_both workshop standard = cond (eqb (reason_number (judged workshop)) 0) (
 -- Where the phrase of a code lies.
 
 -- in one sheet: the first phrase that has the code. A sound sheet has no other
-abbrev pub nowhere : Place
-nowhere = record { start = 0; count = 0; found = false }
+unfoldable pub place_of : ℕ → Phrases → Option Place
+place_of code (ends why) = Nothing
+place_of code (phrase p ps) =
+    cond (eqb p.code code) (Some (record { start = p.start; count = p.count })) (place_of code ps)
 
-unfoldable pub place_of : ℕ → Phrases → Place
-place_of code (ends why) = nowhere
-place_of code (phrase p ps) = cond (eqb p.code code) (record { start = p.start; count = p.count; found = true }) (place_of code ps)
-
-unfoldable pub place_in : List ℕ → ℕ → Place
+unfoldable pub place_in : List ℕ → ℕ → Option Place
 place_in s code = place_of code (phrases_in s)
 
--- in two: "the phrase comes from the workshop's sheet if the code is there, otherwise from the standard sheet". 1 is the workshop's, 2 the
--- standard one, 0 neither
-abbrev pub in_sheet : ℕ → Place → Found
+-- in two: "the phrase comes from the workshop's sheet if the code is there, otherwise from the standard sheet"
+abbrev pub in_sheet : Sheet → Place → Found
 in_sheet sheet p = record { start = p.start; count = p.count; sheet = sheet }
 
-unfoldable pub find_in : List ℕ → List ℕ → ℕ → Found
-find_in workshop standard code =
-    cond (place_in workshop code).found (in_sheet 1 (place_in workshop code))
-    (cond (place_in standard code).found (in_sheet 2 (place_in standard code))
-    (in_sheet 0 nowhere))
+abbrev pub first_of : Option Place → Option Place → Option Found
+first_of (Some p) second = Some (in_sheet Workshop p)
+first_of Nothing second = option_map (in_sheet Standard) second
 
--- a place in the sheet that it names lies inside that sheet. No promise rests on this: it is what a private function asks that writes what was found
+unfoldable pub find_in : List ℕ → List ℕ → ℕ → Option Found
+find_in workshop standard code = first_of (place_in workshop code) (place_in standard code)
+
+-- of two things, that of a sheet
+abbrev pub of_sheet : {A : Type 0} → A → A → Sheet → A
+of_sheet workshop standard Workshop = workshop
+of_sheet workshop standard Standard = standard
+
+-- a place in the sheet that it names lies inside that sheet. No promise rests on this: it is what a private function asks
+-- that writes what was found
 abbrev pub InSheet : List ℕ → List ℕ → Found → Type 0
-InSheet workshop standard f = (f.sheet ≡ 1 → f.start + f.count ≤ length workshop) × (f.sheet ≡ 2 → f.start + f.count ≤ length standard)
+InSheet workshop standard f = f.start + f.count ≤ length (of_sheet workshop standard f.sheet)
 
 -- What is found: nothing, or a text, which may be empty.
 
@@ -113,8 +135,9 @@ pub data Text : Type 0 where
   found : List ℕ → Text
 
 -- of a place in a sheet
-unfoldable pub text_of : List ℕ → Place → Text
-text_of s p = cond p.found (found (take p.count (drop p.start s))) missing
+unfoldable pub text_of : List ℕ → Option Place → Text
+text_of s (Some p) = found (take p.count (drop p.start s))
+text_of s Nothing = missing
 
 -- the first, or where there is none the other
 unfoldable pub or_else : Text → Text → Text
@@ -135,7 +158,7 @@ both_sound workshop standard = passed (bare (judged_both workshop standard))
 
 -- "A code in neither gives an empty part and a no, which differs from an empty phrase": the answer
 unfoldable pub has_phrase : List ℕ → List ℕ → ℕ → Bool
-has_phrase workshop standard code = both_sound workshop standard && not (eqb (find_in workshop standard code).sheet 0)
+has_phrase workshop standard code = both_sound workshop standard && is_some (find_in workshop standard code)
 
 -- and the part: "handed back as part of the sheet it came from", in its memory, as far after its offset as the phrase begins; where there is
 -- none, an empty part at the front of the workshop's sheet
@@ -148,9 +171,9 @@ part_of sheet f = part_at sheet f.start f.count
 abbrev pub no_part : Part → Part
 no_part sheet = part_at sheet 0 0
 
-unfoldable pub part_found : Part → Part → Found → Part
-part_found workshop standard f =
-    cond (eqb f.sheet 1) (part_of workshop f) (cond (eqb f.sheet 2) (part_of standard f) (no_part workshop))
+unfoldable pub part_found : Part → Part → Option Found → Part
+part_found workshop standard (Some f) = part_of (of_sheet workshop standard f.sheet) f
+part_found workshop standard Nothing = no_part workshop
 
 unfoldable pub phrase_in : Part → Part → ℕ → Part
 phrase_in workshop standard code =

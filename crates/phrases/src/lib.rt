@@ -5,7 +5,7 @@
 ghost use Rattle.std.specs.Prelude.{◌+◌, ◌-◌, ◌<◌, ◌≤◌, length, ◌≡◌};
 ghost use Rattle.entry.specs.Entries.{lent};
 ghost use Rattle.phrases.specs.Promises.{Finds, HasPhrase, Phrase, SheetRefusal, SheetsRefusal};
-ghost use Rattle.phrases.specs.Sheets.{body_of, fault, judged, phrases_of, place_in, window, word_at};
+ghost use Rattle.phrases.specs.Sheets.{body_of, fault, Front, in_sheet, judged, phrases_of, place_in, sound_unless, window, word_at};
 
 use refusals::{Reason, Refusal};
 
@@ -14,35 +14,38 @@ const VERSION: u8 = 1;
 // Where the first phrase stands: after two bytes of length and the version.
 const FIRST: usize = 3;
 
-// Where a phrase of one sheet lies: its bytes are start .. start + count of the sheet. Nowhere: three times 0.
+// Where a phrase of one sheet lies: its bytes are start .. start + count of the sheet.
 #[derive(Clone, Copy)]
 pub struct Place {
     pub start: usize,
     pub count: usize,
-    pub found: bool,
 }
 
 impl Place {
-    const NOWHERE: Place = Place {
-        start: 0,
-        count: 0,
-        found: false,
-    };
+    fn of(self, sheet: Sheet) -> Found
+        ensures { result ≡ in_sheet sheet self }
+    {
+        Found {
+            start: self.start,
+            count: self.count,
+            sheet,
+        }
+    }
 }
 
 // The sheets that a phrase can come from.
-pub const NEITHER: u8 = 0;
-
-pub const WORKSHOP: u8 = 1;
-
-pub const STANDARD: u8 = 2;
+#[derive(Clone, Copy, PartialEq, Eq)]
+pub enum Sheet {
+    Workshop,
+    Standard,
+}
 
 // Where a phrase of two sheets lies: which sheet has it, and its bytes there.
 #[derive(Clone, Copy)]
 pub struct Found {
     pub start: usize,
     pub count: usize,
-    pub sheet: u8,
+    pub sheet: Sheet,
 }
 
 // A two-byte number, big-endian.
@@ -55,46 +58,56 @@ fn word(s: &[u8], at: usize) -> u16
     high * 256 + low
 }
 
+// The phrase at an offset, its code and its place, where the phrases end at another; or why it is refused.
+fn phrase_at(sheet: &[u8], at: usize, end: usize) -> Result<(u16, Place), Reason>
+    requires { (at < end) × (end ≤ length sheet.now) }
+    ensures { Front sheet.now at end result }
+{
+    if end - at < 3 {
+        return Err(Reason::ShortSheet);
+    }
+    let count = sheet[at + 2] as usize;
+    let start = at + 3;
+    if end - start < count {
+        return Err(Reason::LongPhrase);
+    }
+    Ok((word(sheet, at), Place { start, count }))
+}
+
 // Phrase by phrase: why the phrases are refused that end at this offset.
-fn judge_phrases(sheet: &[u8], end: usize) -> Reason
+fn judge_phrases(sheet: &[u8], end: usize) -> Result<(), Reason>
     requires { (3 ≤ end) × (end ≤ length sheet.now) }
-    ensures { result ≡ fault 0 (phrases_of 3 (window 3 end sheet.now)) }
+    ensures { result ≡ sound_unless (fault 0 (phrases_of 3 (window 3 end sheet.now))) }
 {
     let mut least: u32 = 0;
     let mut at = FIRST;
+    // No plainer: how far a turn goes on stands in the sheet.
     while at < end {
-        if end - at < 3 {
-            return Reason::ShortSheet;
+        let (code, place) = phrase_at(sheet, at, end)?;
+        if (code as u32) < least {
+            return Err(Reason::CodeNotRising);
         }
-        let next = at + 3 + sheet[at + 2] as usize;
-        if end < next {
-            return Reason::LongPhrase;
-        }
-        let code = word(sheet, at) as u32;
-        if code < least {
-            return Reason::CodeNotRising;
-        }
-        least = code + 1;
-        at = next;
+        least = code as u32 + 1;
+        at = place.start + place.count;
     }
-    Reason::None
+    Ok(())
 }
 
-fn judge(sheet: &[u8]) -> Reason
-    ensures { result ≡ judged sheet.now }
+fn judge(sheet: &[u8]) -> Result<(), Reason>
+    ensures { result ≡ sound_unless (judged sheet.now) }
 {
     if sheet.len() < 2 {
-        return Reason::ShortSheet;
+        return Err(Reason::ShortSheet);
     }
     let length = word(sheet, 0) as usize;
     if length == 0 {
-        return Reason::ShortSheet;
+        return Err(Reason::ShortSheet);
     }
     if sheet.len() < 2 + length {
-        return Reason::ShortSheet;
+        return Err(Reason::ShortSheet);
     }
     if sheet[2] != VERSION {
-        return Reason::BadSheetVersion;
+        return Err(Reason::BadSheetVersion);
     }
     judge_phrases(sheet, 2 + length)
 }
@@ -103,7 +116,10 @@ fn judge(sheet: &[u8]) -> Reason
 pub fn sheet_refusal(sheet: &[u8]) -> Refusal
     ensures { SheetRefusal sheet.now result }
 {
-    Refusal::carrying(judge(sheet), 0)
+    match judge(sheet) {
+        Ok(()) => Refusal::NONE,
+        Err(reason) => Refusal::carrying(reason, 0),
+    }
 }
 
 // The workshop's sheet first, and wholly.
@@ -111,7 +127,7 @@ pub fn sheets_refusal(workshop: &[u8], standard: &[u8]) -> Refusal
     ensures { SheetsRefusal (workshop.now, standard.now) result }
 {
     let refusal = sheet_refusal(workshop);
-    if refusal.number() != 0 {
+    if refusal.is_refused() {
         return refusal;
     }
     sheet_refusal(standard)
@@ -131,88 +147,57 @@ fn end_of(sheet: &[u8]) -> usize
     said
 }
 
-fn look(sheet: &[u8], code: u16) -> Place
+fn look(sheet: &[u8], code: u16) -> Option<Place>
     ensures { result ≡ place_in sheet.now code }
 {
     let end = end_of(sheet);
     let mut at = FIRST;
+    // No plainer: how far a turn goes on stands in the sheet.
     while at < end {
-        if end - at < 3 {
-            return Place::NOWHERE;
+        let Ok((here, place)) = phrase_at(sheet, at, end) else {
+            return None;
+        };
+        if here == code {
+            return Some(place);
         }
-        let count = sheet[at + 2] as usize;
-        let after = at + 3 + count;
-        if end < after {
-            return Place::NOWHERE;
-        }
-        if word(sheet, at) == code {
-            return Place {
-                start: at + 3,
-                count,
-                found: true,
-            };
-        }
-        at = after;
+        at = place.start + place.count;
     }
-    Place::NOWHERE
+    None
 }
 
-// For a caller that has judged the sheets, as a listing has, which looks many codes up. Of a sheet that is refused the phrases count that stand
-// before the first broken one.
-pub fn find(workshop: &[u8], standard: &[u8], code: u16) -> Found
+// For a caller that has judged the sheets, as a listing has, which looks many codes up. Of a sheet that is refused the
+// phrases count that stand before the first broken one.
+pub fn find(workshop: &[u8], standard: &[u8], code: u16) -> Option<Found>
     ensures { Finds (workshop.now, standard.now, code) result }
 {
-    let first = look(workshop, code);
-    if first.found {
-        return Found {
-            start: first.start,
-            count: first.count,
-            sheet: WORKSHOP,
-        };
+    if let Some(place) = look(workshop, code) {
+        return Some(place.of(Sheet::Workshop));
     }
-    let second = look(standard, code);
-    if second.found {
-        return Found {
-            start: second.start,
-            count: second.count,
-            sheet: STANDARD,
-        };
-    }
-    Found {
-        start: 0,
-        count: 0,
-        sheet: NEITHER,
-    }
+    let place = look(standard, code)?;
+    Some(place.of(Sheet::Standard))
 }
 
 // Whether a code has a phrase, which may be empty. Of sheets that are refused none has.
 pub fn has_phrase(workshop: &[u8], standard: &[u8], code: u16) -> bool
     ensures { HasPhrase (workshop.now, standard.now, code) result }
 {
-    let refusal = sheets_refusal(workshop, standard);
-    if refusal.number() != 0 {
-        return false;
-    }
-    let found = find(workshop, standard, code);
-    found.sheet != NEITHER
+    !sheets_refusal(workshop, standard).is_refused() && find(workshop, standard, code).is_some()
 }
 
 // The phrase as a part of the sheet that it came from; an empty part where there is none.
 pub fn phrase<'a>(workshop: &'a [u8], standard: &'a [u8], code: u16) -> &'a [u8]
     ensures { Phrase (lent workshop.entry, lent standard.entry, code) (lent result) }
 {
-    let refusal = sheets_refusal(workshop, standard);
-    if refusal.number() != 0 {
+    if sheets_refusal(workshop, standard).is_refused() {
         return &workshop[0..0];
     }
-    let found = find(workshop, standard, code);
+    let Some(found) = find(workshop, standard, code) else {
+        return &workshop[0..0];
+    };
     let start = found.start;
     let count = found.count;
-    if found.sheet == WORKSHOP {
-        return &workshop[start..start + count];
+    match found.sheet {
+        Sheet::Workshop => &workshop[start..start + count],
+        Sheet::Standard => &standard[start..start + count],
     }
-    if found.sheet == STANDARD {
-        return &standard[start..start + count];
-    }
-    &workshop[0..0]
 }

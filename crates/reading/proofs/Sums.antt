@@ -2,6 +2,8 @@
 use Rattle.std.proofs.Common.{◌≡◌, ℕ, suc, ◌+◌, ◌*◌, ◌%◌, ◌^◌, ◌<◌, ◌≤◌, Bool, true, false, cond, ◌&&◌, ltb, leb, List, [], ◌∷◌, ◌++◌, length, get_or, take, drop, sym, refl, ap, ◌∙◌, ap₂, add-zero, add_assoc, mod-eq_of_lt, zero-add, add-one, arith, take-append-drop, length-take-le, take_all, drop-cons, get_or-take, take-take, ltb-false, ltb-true, le-ltb, lt-ltb, le-leb}
 use native.Mathlib.Nat.{add-mod-mod, mod-add-mod}
 use lib.Seq.{drop-length}
+use Prim.Native.Nat.{min}
+use Rattle.std.proofs.Math.Nat.{min-le_right, min-eq_left, min-eq_right}
 use borrow.Author.Tests.{lt-leb}
 use Rattle.records.specs.Sets.{set_room, no_record}
 use Rattle.records.specs.declared.Record.{Record}
@@ -61,23 +63,21 @@ sum-append [] ys = sym (zero-add (added_up ys))
 sum-append (x ∷ xs) ys = ap (λ (n : ℕ). shifted_back x + n) (sum-append xs ys) ∙ sym (add_assoc (shifted_back x) (added_up xs) (added_up ys))
 
 -- The leaves of a set by its count, held to the set's room.
-module _ (s : Records) (n : ℕ) (long : length s.items ≡ set_room) (is : n ≡ cond (ltb s.count set_room) s.count set_room) where
-  counted : take s.count s.items ≡ take n s.items
-  counted = by (ltb s.count set_room) refl is
-    where
-      by : (b : Bool) → ltb s.count set_room ≡ b → n ≡ cond b s.count set_room → take s.count s.items ≡ take n s.items
-      by true e is = ap (λ (k : ℕ). take k s.items) (sym is)
-      by false e is =
-          let many : set_room ≤ s.count = ltb-false s.count set_room e in
-          take_all s.count s.items (omega arith)
-          ∙ sym (take_all set_room s.items (omega arith)) ∙ ap (λ (k : ℕ). take k s.items) (sym is)
-
+module _ (s : Records) (n : ℕ) (long : length s.items ≡ set_room) (is : n ≡ min s.count set_room) where
   pub within : n ≤ set_room
-  within = by (ltb s.count set_room) refl is
+  within = omega (arith, is, min-le_right s.count set_room)
+
+  counted : take s.count s.items ≡ take n s.items
+  counted = by (ltb s.count set_room) refl
     where
-      by : (b : Bool) → ltb s.count set_room ≡ b → n ≡ cond b s.count set_room → n ≤ set_room
-      by true e is = let h : s.count < set_room = ltb-true s.count set_room e in omega arith
-      by false e is = omega arith
+      by : (b : Bool) → ltb s.count set_room ≡ b → take s.count s.items ≡ take n s.items
+      by true e =
+          let few : s.count ≤ set_room = let h = ltb-true s.count set_room e in omega arith in
+          ap (λ (k : ℕ). take k s.items) (sym (is ∙ min-eq_left few))
+      by false e =
+          let many : set_room ≤ s.count = ltb-false s.count set_room e in
+          let all : n ≡ set_room = is ∙ min-eq_right many in
+          take_all s.count s.items (omega arith) ∙ sym (take_all n s.items (omega arith))
 
   -- a set of up to five: all of them
   pub few-leaves : n ≤ 5 → leaves s ≡ drop 0 (take n s.items)

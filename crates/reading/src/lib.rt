@@ -1,8 +1,8 @@
-// What a reading of a value is (specs/), that a value is accepted exactly when it has one (proofs/), and the value given back from its records: the leaves
-// shifted back and added up.
+// What a reading of a value is (specs/), that a value is accepted exactly when it has one (proofs/), and the value given
+// back from its records: the leaves shifted back and added up.
 #![tactic(auto)]
 
-ghost use Rattle.std.specs.Prelude.{◌≡◌, ◌%◌, ◌^◌, ◌≤◌, take, drop, if◌then◌else◌, nat_lt};
+ghost use Rattle.std.specs.Prelude.{◌≡◌, ◌%◌, ◌^◌, ◌≤◌, take, drop};
 ghost use Rattle.reading.specs.Leaves.{shifted_back, added_up};
 ghost use Rattle.reading.specs.Promises.{SumBack};
 ghost use Rattle.records.specs.Sets.{set_room};
@@ -31,31 +31,17 @@ fn sum_of(records: Records, from: usize, to: usize) -> u64
     ensures { result ≡ added_up (drop from (take to records.items)) % 2 ^ 64 }
 {
     let mut sum: u64 = 0;
-    let mut i = from;
-    while i < to {
-        let field = records.items[i];
-        sum = std::num::wrapping_add_u64(sum, shifted_back(field));
-        i += 1;
+    for i in from..to {
+        sum = std::num::wrapping_add_u64(sum, shifted_back(records.items[i]));
     }
     sum
-}
-
-// The count of a set, held to the set's room.
-fn held(count: usize) -> usize
-    ensures { result ≡ (if nat_lt count set_room then count else set_room) }
-{
-    if count < Records::MAX {
-        count
-    } else {
-        Records::MAX
-    }
 }
 
 // The leaves are the first four and those after the fifth, or the fifth where there are none after it. Total over any set.
 pub fn sum_back(records: Records) -> u64
     ensures { SumBack records result }
 {
-    let count = held(records.count);
+    let count = records.count.min(Records::MAX);
     if count <= 5 {
         return sum_of(records, 0, count);
     }

@@ -19,11 +19,9 @@ fn put_each(buf: &mut [u8], at: usize, body: &[u8]) -> usize
     ensures { Appends (in_order byte_text body.now) (at, buf.old) (result, buf.new) }
 {
     let mut next = at;
-    let mut i: usize = 0;
-    while i < body.len() {
+    for b in body {
         next = put_bytes(buf, next, b" ");
-        next = put_digits(buf, next, Base::Hex, 2, body[i] as u64);
-        i += 1;
+        next = put_digits(buf, next, Base::Hex, 2, *b as u64);
     }
     next
 }
@@ -112,14 +110,8 @@ pub fn put_record_lines(buf: &mut [u8], at: usize, records: Records) -> usize
     let pool = texts::pool_bytes();
     let starts = texts::text_starts();
     let mut next = at;
-    let mut i: usize = 0;
-    while i < records.count {
-        if Records::MAX <= i {
-            return next;
-        }
-        let item = records.items[i];
-        next = put_record(buf, next, &pool, &starts, i, item);
-        i += 1;
+    for i in 0..records.count.min(Records::MAX) {
+        next = put_record(buf, next, &pool, &starts, i, records.items[i]);
     }
     next
 }

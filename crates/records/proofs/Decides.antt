@@ -1,7 +1,7 @@
 -- Each promise of this crate decides its answer: it says what the answer is.
 use Rattle.promise.specs.Promise.{Decides}
 use Rattle.promise.proofs.Laws.{same}
-use Rattle.records.specs.Promises.{AsBit, At, Emptied, Field, Got, Meets, Number, Refused}
+use Rattle.records.specs.Promises.{AsBit, At, Emptied, Field, Got, Marked, Meets, Number, Refused}
 
 pub field_decides : Decides Field
 field_decides (v, start, width) a b = same
@@ -11,6 +11,9 @@ as_bit_decides (v, position) a b = same
 
 pub Mark-number_decides : Decides Number
 Mark-number_decides mark a b = same
+
+pub Mark-of_kind_decides : Decides Marked
+Mark-of_kind_decides kind a b = same
 
 pub Row-get_decides : Decides Got
 Row-get_decides (row, v) a b = same

@@ -2,7 +2,7 @@
 use Rattle.std.specs.Prelude.{ℕ, Bool, [], ◌≡◌, eqb}
 use Rattle.records.specs.Bits.{field_of}
 use Rattle.refusals.specs.declared.Refusal.{Refusal}
-use Rattle.records.specs.Kinds.{mark_number}
+use Rattle.records.specs.Kinds.{kind_of, mark_of, mark_number}
 use Rattle.records.specs.Rows.{record_of, meets, refusal_of}
 use Rattle.records.specs.Sets.{records_of, record_at}
 use Rattle.records.specs.declared.Mark.{Mark}
@@ -19,6 +19,9 @@ AsBit (v, position) r = r ≡ eqb (field_of v position 1) 1
 
 abbrev pub Number : Mark → ℕ → Type 0
 Number mark r = r ≡ mark_number mark
+
+abbrev pub Marked : ℕ → Mark → Type 0
+Marked kind r = r ≡ mark_of (kind_of kind)
 
 abbrev pub Got : Row × ℕ → Record → Type 0
 Got (row, v) r = r ≡ record_of v row

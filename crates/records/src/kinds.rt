@@ -1,3 +1,4 @@
+// Kept as numbers: `Row::get`, `meets` and `refusal` take any kind.
 // The kinds of rows by name. A kind is the number of its mark and, for a coded one, four times the index of its reason in the list of specs/Kinds.antt.
 pub const MARKS: u8 = 4;
 

@@ -1,8 +1,8 @@
 // The vocabulary of a reading: fields of a value, rows, records and sets of them.
 #![tactic(auto)]
 
-ghost use Rattle.records.specs.Promises.{AsBit, At, Emptied, Field, Got, Meets, Number, Refused};
-ghost use Rattle.records.specs.Kinds.{kind_of, mark_of, reason_at};
+ghost use Rattle.records.specs.Promises.{AsBit, At, Emptied, Field, Got, Marked, Meets, Number, Refused};
+ghost use Rattle.records.specs.Kinds.{reason_at};
 ghost use Rattle.records.specs.Sets.{no_record};
 ghost use Rattle.records.specs.Subjects.{key_of};
 ghost use Rattle.records.specs.Subjects as subjects;
@@ -34,7 +34,7 @@ pub fn as_bit(v: u64, position: u8) -> bool
 }
 
 // What is known of a record's field: that nothing is asked of it, that it is on its list, that it is reserved and 0, or reserved and anything.
-#[derive(Clone, Copy)]
+#[derive(Clone, Copy, PartialEq, Eq)]
 pub enum Mark {
     Free,
     Coded,
@@ -53,17 +53,18 @@ impl Mark {
             Mark::Unchecked => 3,
         }
     }
-}
 
-// The numbers of the marks are those of the cases, so that this costs an instruction for each record and no lookup.
-fn mark_of(kind: u8) -> Mark
-    ensures { result ≡ mark_of (kind_of kind) }
-{
-    match kind % kinds::MARKS {
-        kinds::FREE => Mark::Free,
-        kinds::CODED => Mark::Coded,
-        kinds::CHECKED => Mark::Checked,
-        _ => Mark::Unchecked,
+    // The mark of any kind. The numbers of the marks are those of the cases, so that this costs an instruction for each
+    // record and no lookup.
+    pub fn of_kind(kind: u8) -> Self
+        ensures { Marked kind result }
+    {
+        match kind % kinds::MARKS {
+            kinds::FREE => Mark::Free,
+            kinds::CODED => Mark::Coded,
+            kinds::CHECKED => Mark::Checked,
+            _ => Mark::Unchecked,
+        }
     }
 }
 
@@ -107,7 +108,8 @@ fn subject(rule: u8, value: u64) -> u64
 }
 
 // A row of a layout; a kind is one of `kinds`. Six bytes with no gap, so that rows are copied as one block.
-#[derive(Clone, Copy)]
+// Kept as numbers: document 01 names the rule number in a row, and `get`, `meets` and `refusal` take any kind (`Meets`).
+#[derive(Clone, Copy, PartialEq, Eq)]
 pub struct Row {
     pub start: u8,
     pub width: u8,
@@ -118,7 +120,7 @@ pub struct Row {
 }
 
 // A row's field of a value, as the Rust's FieldInfo. Sixteen bytes with no gap, in the order of the C record, so that both are copied as one.
-#[derive(Clone, Copy)]
+#[derive(Clone, Copy, PartialEq, Eq)]
 pub struct Record {
     pub value: u64,
     pub name: u16,
@@ -142,7 +144,7 @@ impl Row {
             long: self.long,
             start: self.start,
             width: self.width,
-            mark: mark_of(self.kind),
+            mark: Mark::of_kind(self.kind),
         }
     }
 
@@ -151,11 +153,10 @@ impl Row {
         ensures { Meets (self, v) result }
     {
         let value = field(v, self.start, self.width);
-        match mark_of(self.kind) {
-            Mark::Free => true,
+        match Mark::of_kind(self.kind) {
+            Mark::Free | Mark::Unchecked => true,
             Mark::Coded => lookup::describes(self.rule, value),
             Mark::Checked => value == 0,
-            Mark::Unchecked => true,
         }
     }
 
@@ -165,8 +166,8 @@ impl Row {
         ensures { Refused (self, v) result }
     {
         let carries = field(v, self.start, self.width);
-        match mark_of(self.kind) {
-            Mark::Free => Refusal::carrying(Reason::None, carries),
+        match Mark::of_kind(self.kind) {
+            Mark::Free | Mark::Unchecked => Refusal::carrying(Reason::None, carries),
             Mark::Coded => Refusal::carrying(reason_at(self.kind / kinds::MARKS), carries),
             Mark::Checked => Refusal {
                 carries,
@@ -174,7 +175,6 @@ impl Row {
                 width: self.width,
                 reason: Reason::InvalidRes0,
             },
-            Mark::Unchecked => Refusal::carrying(Reason::None, carries),
         }
     }
 }
@@ -195,6 +195,7 @@ fn no_record() -> Record
 }
 
 // Records in order, and slots after them that hold the empty record.
+// Kept: document 01 names this form, a flat set of 19 records with a count; nothing is allocated.
 #[derive(Clone, Copy)]
 pub struct Records {
     pub items: [Record; Records::MAX],
@@ -219,10 +220,7 @@ impl Records {
     pub fn at(self, index: usize) -> Record
         ensures { At (self, index) result }
     {
-        if self.count <= index {
-            return no_record();
-        }
-        if Records::MAX <= index {
+        if self.count <= index || Records::MAX <= index {
             return no_record();
         }
         self.items[index]

@@ -16,20 +16,19 @@ pub fn put_number_reply(buf: &mut [u8], at: usize, number: Number) -> usize
     ensures { NumberReply (buf.old, at, number) (result, buf.new) }
 {
     let refusal = number.refusal;
-    let reason = refusal.number();
-    if reason != 0 {
-        return put_number_line(buf, at, b"refused ", Base::Decimal, reason as u64);
+    if refusal.is_refused() {
+        return put_number_line(buf, at, b"refused ", Base::Decimal, refusal.number() as u64);
     }
     put_number_line(buf, at, b"ok 0x", Base::Hex, number.value)
 }
 
+// No plainer as one with `put_listed` of listing_reply: a closure over the buffer has a longer contract than these two lines.
 fn put_decoded(buf: &mut [u8], at: usize, profile: Profile, esr: u64) -> usize
     ensures { Appends (decoded profile esr) (at, buf.old) (result, buf.new) }
 {
     let answer = decode_by(profile, esr);
-    let refusal = answer.refusal;
-    if refusal.number() != 0 {
-        return put_carried(buf, at, refusal);
+    if answer.refusal.is_refused() {
+        return put_carried(buf, at, answer.refusal);
     }
     put_record_lines(buf, at, answer.records)
 }
@@ -38,8 +37,7 @@ fn put_decoded(buf: &mut [u8], at: usize, profile: Profile, esr: u64) -> usize
 pub fn put_records_reply(buf: &mut [u8], at: usize, profile: Profile, number: Number) -> usize
     ensures { RecordsReply (buf.old, at, profile, number) (result, buf.new) }
 {
-    let refusal = number.refusal;
-    if refusal.number() != 0 {
+    if number.refusal.is_refused() {
         return put_number_reply(buf, at, number);
     }
     let next = put_number_line(buf, at, b"> 0x", Base::Hex, number.value);

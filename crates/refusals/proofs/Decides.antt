@@ -1,7 +1,7 @@
 -- Each promise of this crate decides its answer: it says what the answer is.
 use Rattle.promise.specs.Promise.{Decides}
 use Rattle.promise.proofs.Laws.{same}
-use Rattle.refusals.specs.Promises.{Carrying, Number, ValueNumber, ValuePlace}
+use Rattle.refusals.specs.Promises.{Carrying, Checked, IsRefused, Number, ValueNumber, ValuePlace}
 
 pub Reason-number_decides : Decides Number
 Reason-number_decides reason a b = same
@@ -11,6 +11,12 @@ Refusal-carrying_decides (reason, carries) a b = same
 
 pub Refusal-number_decides : Decides Number
 Refusal-number_decides reason a b = same
+
+pub Refusal-is_refused_decides : Decides IsRefused
+Refusal-is_refused_decides refusal a b = same
+
+pub Refusal-check_decides : Decides Checked
+Refusal-check_decides refusal a b = same
 
 pub value_number_decides : Decides ValueNumber
 value_number_decides place a b = same

@@ -1,5 +1,5 @@
 -- 01's table of refusals: the number of each reason, and a refusal with what it carries.
-use Rattle.std.specs.Prelude.{ℕ, Bool, List, [], ◌∷◌, eqb}
+use Rattle.std.specs.Prelude.{ℕ, Bool, cond, not, List, [], ◌∷◌, eqb, Result, Ok, Err}
 use Rattle.refusals.specs.declared.Reason.{Reason}
 use Rattle.refusals.specs.declared.Reason.TheVariants.{None, InvalidRes0, InvalidEc, InvalidFsc, InvalidSet, InvalidAet, InvalidAm, InvalidLd64bIss, Empty, InvalidDigit, PosOverflow, ShortBuffer, BadField, BadIndex, ShortEntry, BadLength, BadVersion, BadTable, LongRun, LongBlock, NoLayout, WideLeaf, BadRest, InvalidWu, InvalidVncr, ShortSheet, BadSheetVersion, LongPhrase, CodeNotRising}
 use Rattle.refusals.specs.declared.Refusal.{Refusal}
@@ -60,3 +60,10 @@ no_refusal = bare None
 -- nothing is refused
 abbrev pub passed : Refusal → Bool
 passed f = eqb (refusal_number f) 0
+
+abbrev pub is_refused : Refusal → Bool
+is_refused f = not (passed f)
+
+-- a refusal as an error; nothing where nothing is refused
+abbrev pub checked : Refusal → Result Unit Refusal
+checked f = cond (passed f) (Ok tt) (Err f)

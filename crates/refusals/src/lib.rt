@@ -1,10 +1,10 @@
 // The refusals of 01 and 02: the reason, its number, and what a refusal carries. Nothing lies below but what a promise is.
 #![tactic(auto)]
 
-ghost use Rattle.refusals.specs.Promises.{Carrying, Number, ValueNumber, ValuePlace};
+ghost use Rattle.refusals.specs.Promises.{Carrying, Checked, IsRefused, Number, ValueNumber, ValuePlace};
 
 // The reasons, in the order of their numbers; None where nothing is refused.
-#[derive(Clone, Copy)]
+#[derive(Clone, Copy, PartialEq, Eq)]
 pub enum Reason {
     None,
     InvalidRes0,
@@ -78,7 +78,7 @@ impl Reason {
 
 // A reason and what it carries: 0 where 01 names nothing. InvalidRes0 also names its field, by the bit where it starts and its width; of every other
 // refusal both are 0 (#105).
-#[derive(Clone, Copy)]
+#[derive(Clone, Copy, PartialEq, Eq)]
 pub struct Refusal {
     pub carries: u64,
     pub start: u8,
@@ -108,43 +108,43 @@ impl Refusal {
     pub fn number(self) -> u8
         ensures { Number self.reason result }
     {
-        let reason = self.reason;
-        reason.number()
+        self.reason.number()
+    }
+
+    pub fn is_refused(self) -> bool
+        ensures { IsRefused self result }
+    {
+        self.reason != Reason::None
+    }
+
+    // Itself as an error, which `?` hands on; nothing where nothing is refused.
+    pub fn check(self) -> Result<(), Refusal>
+        ensures { Checked self result }
+    {
+        if self.is_refused() {
+            return Err(self);
+        }
+        Ok(())
     }
 }
 
-// How many numbers there are that a value can be refused by: 01's 1 to 7, and 24 and 25 of strict reading (#110).
+// The numbers that a value can be refused by, in their order: 01's 1 to 7, and 24 and 25 of strict reading (#110).
+const NUMBERS_IN_ORDER: [u8; VALUE_NUMBERS] = [1, 2, 3, 4, 5, 6, 7, 24, 25];
+
 pub const VALUE_NUMBERS: usize = 9;
 
-// The number at a place of these, in their order; 0 past the last.
-#[tactic(auto, unfolding(crate::specs::Values::value_numbers))]
+// The number at a place of these; 0 past the last.
+#[tactic(auto, using(std::proofs::lemmas::Option::get_or_from_slice_get), unfolding(crate::specs::Values::value_numbers))]
 pub fn value_number(place: usize) -> u8
     ensures { ValueNumber place result }
 {
-    match place {
-        0 => 1,
-        1 => 2,
-        2 => 3,
-        3 => 4,
-        4 => 5,
-        5 => 6,
-        6 => 7,
-        7 => 24,
-        8 => 25,
-        _ => 0,
-    }
+    NUMBERS_IN_ORDER.get(place).copied().unwrap_or(0)
 }
 
-// The place of a number; one past the last where a value cannot be refused by it.
-pub fn value_place(number: u8) -> usize
+// The place of a number; None where a value cannot be refused by it.
+#[tactic(auto, unfolding(crate::specs::Values::value_place, crate::specs::Values::value_numbers))]
+pub fn value_place(number: u8) -> Option<usize>
     ensures { ValuePlace number result }
 {
-    let mut place: usize = 0;
-    while place < VALUE_NUMBERS {
-        if value_number(place) == number {
-            return place;
-        }
-        place += 1;
-    }
-    VALUE_NUMBERS
+    NUMBERS_IN_ORDER.iter().position(|n| *n == number)
 }

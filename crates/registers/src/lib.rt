@@ -16,26 +16,12 @@ const KEYS: [u16; COUNT] = [
     0xDF11, 0xDF12, 0xDF19, 0xDF1A,
 ];
 
-// By halves: all before `low` are below the key, and none from `high` on.
+// 64 for none, and no Option: kept, `Placed` says so.
 pub fn place(key: u16) -> usize
     ensures { Placed key result }
 {
-    let keys = KEYS;
-    let mut low: usize = 0;
-    let mut high: usize = COUNT;
-    while low < high {
-        let middle = low + (high - low) / 2;
-        if keys[middle] < key {
-            low = middle + 1;
-        } else {
-            high = middle;
-        }
+    match KEYS.binary_search(&key) {
+        Ok(i) => i,
+        Err(_) => COUNT,
     }
-    if low == COUNT {
-        return COUNT;
-    }
-    if keys[low] == key {
-        return low;
-    }
-    COUNT
 }

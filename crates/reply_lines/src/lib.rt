@@ -59,6 +59,7 @@ pub fn put_refusal(buf: &mut [u8], at: usize, refusal: Refusal) -> usize
 }
 
 // Where the field starts that a refusal names, and its width.
+// Kept as a number: `field_part` and the messages' RES0 are told by it (`MessagePut`).
 fn put_field_part(buf: &mut [u8], at: usize, refusal: Refusal) -> usize
     ensures { Appends (field_part refusal) (at, buf.old) (result, buf.new) }
 {

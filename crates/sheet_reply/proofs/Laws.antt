@@ -1,4 +1,5 @@
--- What the definitions give under the tests that the code made; and the lines of codes grow by one code's at each turn of a loop.
+-- What the definitions give under the tests that the code made; and the lines of codes grow by one code's at each turn
+-- of a loop.
 use Prim.Native.Nat.{ℕ, zero, suc, ◌+◌, ◌-◌, ◌/◌, ◌%◌, ◌≤◌, ◌<◌}
 use mathlib.Core.Bool.{Bool, true, false, cond}
 use mathlib.Core.List.{List, [], ◌∷◌, ◌++◌, append-nil, append_assoc}
@@ -6,20 +7,23 @@ use mathlib.Core.Path.{◌≡◌, refl, sym, ap, subst, ◌∙◌}
 use native.Mathlib.Nat.{add-zero, add-suc, suc-add}
 use native.Mathlib.Omega.{arith}
 use borrow.Author.Tests.{lt-ltb, le-ltb, ltb-true, ltb-false}
-use lib.Dec.{T, ltb}
-use lib.ListN.{length, take, drop, length-drop}
+use lib.Dec.{ltb}
+use lib.ListN.{length, get_or, take, drop, length-drop}
 use lib.Seq.{take_all}
-use Rattle.buffer.specs.Appending.{Appends}
+use Rattle.buffer.specs.Appending.{Appends, appended}
 use Rattle.number.specs.Rest.{read_of}
 use Rattle.phrases.specs.Writing.{phrase_bytes}
-use Rattle.refusals.specs.Refusals.{passed}
+use Rattle.refusals.specs.declared.Refusal.{Refusal}
+use Rattle.number.specs.declared.NumberRead.{NumberRead}
+use Rattle.std.specs.Int.{to_be_bytes, w16}
+use Rattle.std.specs.Prelude.{Result, Ok, Err}
 use Rattle.sheet_lines.proofs.Laws.{taken-within}
-use Rattle.sheet_lines.specs.Lines.{code_line, taken_of, text_start, faulty}
+use Rattle.sheet_lines.specs.Lines.{code_line, taken_by, taken_of, text_start}
 use Rattle.sheet_lines.specs.declared.Fault.{Fault}
-use Rattle.sheet_lines.specs.declared.Fault.TheVariants.{None, NoCode, NoText, NotRising, TooLong}
+use Rattle.sheet_lines.specs.declared.Fault.TheVariants.{NoText, NotRising, TooLong}
 use Rattle.sheet_lines.specs.declared.Taken.{Taken}
 use Rattle.sheets.specs.Standard.{is_records}
-use Rattle.sheet_reply.specs.Replies.{lines_at, is_fault, fault_words, phrase_of, adds, answer_of, added_of, head_bytes}
+use Rattle.sheet_reply.specs.Replies.{lines_at, fault_words, answer_of, head_bytes}
 
 -- One code more.
 
@@ -45,41 +49,33 @@ none_yet first = let e : first - first ≡ 0 = omega arith in rw e
 -- A line that is taken has its text inside, of at most 255 bytes.
 
 module _ (line : List ℕ) (least : ℕ) where
-  abbrev from : ℕ
-  from = text_start line (read_of line).taken
+  abbrev pub Sound : Result Taken Fault → Type 0
+  Sound (Ok t) = (t.start ≤ length line) × (length line - t.start ≤ 255)
+  Sound (Err fault) = Unit {0}
 
-  from-within : from ≤ length line
-  from-within = by (ltb (read_of line).taken (length line)) refl
+  from-within : (taken : ℕ) → taken ≤ length line → text_start line taken ≤ length line
+  from-within taken h = by (ltb taken (length line)) refl
     where
-      by : (b : Bool) → ltb (read_of line).taken (length line) ≡ b → cond b ((read_of line).taken + 1) (read_of line).taken ≤ length line
-      by true e = omega (arith, ltb-true (read_of line).taken (length line) e)
-      by false e = taken-within line refl
+      by : (b : Bool) → ltb taken (length line) ≡ b → cond b (taken + 1) taken ≤ length line
+      by true e = omega (arith, ltb-true taken (length line) e)
+      by false e = h
 
-  abbrev Sound : Taken → Type 0
-  Sound t = is_fault t.fault ≡ false → (t.start ≤ length line) × (length line - t.start ≤ 255)
-
-  pub taken-sound : Sound (taken_of line least)
-  unfolding taken_of is_fault
-  taken-sound = by (passed (read_of line).refusal) (is_records (read_of line).value) (ltb (read_of line).value least) (ltb 255 (length line - from)) refl
+  pub taken-sound : {r : Result Taken Fault} → r ≡ taken_of line least → Sound r
+  unfolding taken_of
+  taken-sound is = rw is (by-read (read_of line) refl)
     where
-      by : (p r l t : Bool) → ltb 255 (length line - from) ≡ t
-          → Sound (cond p (cond r (cond l (faulty NotRising) (cond t (faulty TooLong) (record { start = from; code = (read_of line).value; fault = None }))) (faulty NoText)) (faulty NoCode))
-      by false r l t e none = absurd (subst T none tt)
-      by true false l t e none = absurd (subst T none tt)
-      by true true true t e none = absurd (subst T none tt)
-      by true true false true e none = absurd (subst T none tt)
-      by true true false false e none = (from-within, omega (arith, ltb-false 255 (length line - from) e))
+      by : (from : ℕ) (value : ℕ) (r l t : Bool) → ltb 255 (length line - from) ≡ t → from ≤ length line
+          → Sound (cond r (cond l (Err NotRising) (cond t (Err TooLong) (Ok (record { start = from; code = value })))) (Err NoText))
+      by from value false l t e h = tt
+      by from value true true t e h = tt
+      by from value true false true e h = tt
+      by from value true false false e h = (h, omega (arith, ltb-false 255 (length line - from) e))
 
--- What a line adds, by the tests of the code.
-
-module _ (line : List ℕ) (least : ℕ) (t : Taken) where
-  pub adds-fault : is_fault t.fault ≡ true → adds line least t ≡ ([], least, t.fault)
-  unfolding adds
-  adds-fault h = rw h
-
-  pub adds-phrase : is_fault t.fault ≡ false → adds line least t ≡ (phrase_of line t, t.code + 1, None)
-  unfolding adds
-  adds-phrase h = rw h
+      by-read : (r : Result NumberRead Refusal) → read_of line ≡ r → Sound (taken_by line least r)
+      by-read (Err f) e = tt
+      by-read (Ok n) e =
+          by (text_start line n.taken) n.value (is_records n.value) (ltb n.value least) (ltb 255 (length line - text_start line n.taken)) refl
+          (from-within n.taken (taken-within line e))
 
 -- a phrase is its head and the rest of the line
 pub phrase-parts : (code : ℕ) (line : List ℕ) (start : ℕ)
@@ -87,6 +83,11 @@ pub phrase-parts : (code : ℕ) (line : List ℕ) (start : ℕ)
 phrase-parts code line start =
     let long : length (drop start line) ≡ length line - start = length-drop start line in
     rw (long, take_all (length line - start) (drop start line) (omega (arith, long)))
+
+-- the bytes of a number of 16 bits, the higher first
+pub two-bytes : {n : ℕ} {bs : List ℕ} → bs ≡ to_be_bytes w16 n → n < 65536
+    → (get_or bs 0 0 ≡ n / 256) × (get_or bs 1 0 ≡ n % 256)
+two-bytes e h = rw e (omega arith, refl)
 
 -- Two bytes count the phrases, or they do not.
 
@@ -99,8 +100,8 @@ unfolding head_bytes
 a_head {count} h = rw (le-ltb 65534 count h)
 
 -- an appender's answer is the line's
-pub added : {what : List ℕ × ℕ × Fault} {from out : ℕ × List ℕ} → Appends what.0 from out → answer_of what out ≡ added_of what from
-added {what} w = ap (answer_of what) w.is
+pub added : (least : ℕ) {what : List ℕ} {from out : ℕ × List ℕ} → Appends what from out → answer_of least out ≡ answer_of least (appended what from)
+added least w = ap (answer_of least) w.is
 
 -- a fault's words
 pub words_of : {fault is : Fault} {before after : ℕ × List ℕ} → fault ≡ is → Appends (fault_words is) before after → Appends (fault_words fault) before after

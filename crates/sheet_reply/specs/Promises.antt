@@ -1,5 +1,5 @@
 -- What each public function promises: of what comes in and what the buffer holds before, the answer and what the buffer holds after.
-use Rattle.std.specs.Prelude.{ℕ, Bool, List, ◌≡◌}
+use Rattle.std.specs.Prelude.{ℕ, Bool, List, ◌≡◌, Result}
 use Rattle.buffer.specs.Appending.{Appends}
 use Rattle.sheet_lines.specs.Lines.{taken_of}
 use Rattle.sheet_lines.specs.declared.Fault.{Fault}
@@ -13,8 +13,8 @@ LinesPut (before, at) out = Appends standard_lines (at, before) out
 abbrev pub IsFault : Fault → Bool → Type 0
 IsFault fault r = r ≡ is_fault fault
 
-abbrev pub LineAdded : List ℕ × ℕ × List ℕ × ℕ → Added × List ℕ → Type 0
-LineAdded (before, at, line, least) out = out ≡ added_of (adds line least (taken_of line least)) (at, before)
+abbrev pub LineAdded : List ℕ × ℕ × List ℕ × ℕ → Result Added Fault × List ℕ → Type 0
+LineAdded (before, at, line, least) out = out ≡ added_of (adds line (taken_of line least)) (at, before)
 
 abbrev pub HeadPut : List ℕ × ℕ × ℕ → ℕ × List ℕ → Type 0
 HeadPut (before, at, count) out = Appends (head_bytes count) (at, before) out

@@ -1,5 +1,5 @@
 -- `esr sheet`: what is written, byte for byte.
-use Rattle.std.specs.Prelude.{ℕ, zero, suc, ◌+◌, ◌-◌, Bool, true, false, cond, List, [], ◌∷◌, ◌++◌, ltb, length, drop}
+use Rattle.std.specs.Prelude.{ℕ, zero, suc, ◌+◌, ◌-◌, Bool, true, false, cond, List, [], ◌∷◌, ◌++◌, ltb, length, drop, Result, Ok, Err}
 use Rattle.buffer.specs.Appending.{appended}
 use Rattle.digits.specs.Digits.{numeral}
 use Rattle.phrases.specs.Writing.{phrase_bytes, word_bytes}
@@ -32,16 +32,18 @@ is_fault TooLong = true
 abbrev pub phrase_of : List ℕ → Taken → List ℕ
 phrase_of line t = phrase_bytes (t.code, drop t.start line)
 
--- what a line adds: its bytes, the code that the next line must have at least, and why it is refused, if it is
-unfoldable pub adds : List ℕ → ℕ → Taken → List ℕ × ℕ × Fault
-adds line least t = cond (is_fault t.fault) ([], least, t.fault) (phrase_of line t, t.code + 1, None)
+-- what a line adds: its bytes, and the code that the next line must have at least; or why it is refused
+abbrev pub adds : List ℕ → Result Taken Fault → Result (List ℕ × ℕ) Fault
+adds line (Ok t) = Ok (phrase_of line t, t.code + 1)
+adds line (Err fault) = Err fault
 
--- the same as an answer: the next offset, and the buffer
-abbrev pub answer_of : List ℕ × ℕ × Fault → ℕ × List ℕ → Added × List ℕ
-answer_of (_, least, fault) (next, after) = (record { next = next; least = least; fault = fault }, after)
+-- the same as an answer: the next offset, and the buffer, which a line that is refused leaves as it was
+abbrev pub answer_of : ℕ → ℕ × List ℕ → Result Added Fault × List ℕ
+answer_of least (next, after) = (Ok (record { next = next; least = least }), after)
 
-abbrev pub added_of : List ℕ × ℕ × Fault → ℕ × List ℕ → Added × List ℕ
-added_of what from = answer_of what (appended what.0 from)
+abbrev pub added_of : Result (List ℕ × ℕ) Fault → ℕ × List ℕ → Result Added Fault × List ℕ
+added_of (Ok (what, least)) from = answer_of least (appended what from)
+added_of (Err fault) (at, before) = (Err fault, before)
 
 -- the front of a sheet, whose phrases have so many bytes
 unfoldable pub head_bytes : ℕ → List ℕ

@@ -1,4 +1,5 @@
-// What `esr sheet` writes (#112): the standard sheet in lines to translate, a sheet made of such lines, one at a time, and why a line is refused.
+// What `esr sheet` writes (#112): the standard sheet in lines to translate, a sheet made of such lines, one at a time,
+// and why a line is refused.
 #![tactic(auto)]
 
 ghost use Rattle.std.specs.Prelude.{◌-◌, ◌≤◌, drop, length};
@@ -14,15 +15,15 @@ use texts::pool;
 
 const VERSION: u8 = 1;
 
-// So many bytes of phrases a sheet can count: its length counts the version too. The phrases of all codes have fewer, whatever their texts (`never-full`).
+// So many bytes of phrases a sheet can count: its length counts the version too. The phrases of all codes have fewer,
+// whatever their texts (`never_full`).
 const PHRASES_MAX: usize = 65534;
 
-// The next offset among the phrases, the code that the next line must have at least, and why the line is refused, if it is.
+// The next offset among the phrases, and the code that the next line must have at least.
 #[derive(Clone, Copy)]
 pub struct Added {
     pub next: usize,
     pub least: u32,
-    pub fault: Fault,
 }
 
 // Every line of the standard sheet.
@@ -30,10 +31,8 @@ pub fn put_lines(buf: &mut [u8], at: usize) -> usize
     ensures { LinesPut (buf.old, at) (result, buf.new) }
 {
     let mut next = at;
-    let mut code: u16 = pool::BIT_FIRST;
-    while code < pool::COUNT as u16 {
+    for code in pool::BIT_FIRST..pool::COUNT as u16 {
         next = sheet_lines::put_code_line(buf, next, code);
-        code += 1;
     }
     next
 }
@@ -43,13 +42,7 @@ pub fn put_lines(buf: &mut [u8], at: usize) -> usize
 pub fn is_fault(fault: Fault) -> bool
     ensures { IsFault fault result }
 {
-    match fault {
-        Fault::None => false,
-        Fault::NoCode => true,
-        Fault::NoText => true,
-        Fault::NotRising => true,
-        Fault::TooLong => true,
-    }
+    fault != Fault::None
 }
 
 // A phrase whose text is the rest of a line.
@@ -57,31 +50,23 @@ fn put_phrase(buf: &mut [u8], at: usize, line: &[u8], start: usize, code: u16) -
     requires { (start ≤ length line.now) × (length line.now - start ≤ 255) }
     ensures { Appends (phrase_bytes (code, drop start line.now)) (at, buf.old) (result, buf.new) }
 {
-    let count = line.len() - start;
-    let head = [(code / 256) as u8, (code % 256) as u8, count as u8];
+    let [high, low] = code.to_be_bytes();
+    let head = [high, low, (line.len() - start) as u8];
     let a = put_bytes(buf, at, &head);
-    put_bytes(buf, a, &line[start..line.len()])
+    put_bytes(buf, a, &line[start..])
 }
 
-// Puts the phrase of a line after those before it, which end at this offset; a line that is refused puts nothing.
-pub fn add_line(buf: &mut [u8], at: usize, line: &[u8], least: u32) -> Added
+// Puts the phrase of a line after those before it, which end at this offset; a line that is refused puts nothing. Its
+// fault is never `None`.
+pub fn add_line(buf: &mut [u8], at: usize, line: &[u8], least: u32) -> Result<Added, Fault>
     ensures { LineAdded (buf.old, at, line.now, least) (result, buf.new) }
 {
-    let taken = sheet_lines::take_line(line, least);
-    let fault = taken.fault;
-    if is_fault(fault) {
-        return Added {
-            next: at,
-            least,
-            fault,
-        };
-    }
+    let taken = sheet_lines::take_line(line, least)?;
     let next = put_phrase(buf, at, line, taken.start, taken.code);
-    Added {
+    Ok(Added {
         next,
-        least: taken.code as u32 + 1,
-        fault: Fault::None,
-    }
+        least: u32::from(taken.code) + 1,
+    })
 }
 
 // The length and the version of a sheet whose phrases have so many bytes; nothing where they are too many.
@@ -92,7 +77,8 @@ pub fn put_head(buf: &mut [u8], at: usize, count: usize) -> usize
         return at;
     }
     let following = 1 + count;
-    let head = [(following / 256) as u8, (following % 256) as u8, VERSION];
+    let [high, low] = (following as u16).to_be_bytes();
+    let head = [high, low, VERSION];
     put_bytes(buf, at, &head)
 }
 

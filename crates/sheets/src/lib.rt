@@ -10,9 +10,9 @@ ghost use Rattle.sheets.specs.Standard.{is_message, phrase_at, standard_phrases,
 ghost use Rattle.texts.specs.Pool.{name_room};
 
 use buffer::{put_bytes, put_text};
-use refusals::{Reason, Refusal};
+use refusals::Refusal;
 use texts::pool;
-use written::Written;
+use written::room_for;
 
 const VERSION: u8 = 1;
 
@@ -61,10 +61,8 @@ fn put_phrases(buf: &mut [u8], at: usize, pool: &[u8], starts: &[u16]) -> usize
     ensures { Appends (phrases_bytes standard_phrases) (at, buf.old) (result, buf.new) }
 {
     let mut next = at;
-    let mut code: u16 = pool::BIT_FIRST;
-    while code < pool::COUNT as u16 {
+    for code in pool::BIT_FIRST..pool::COUNT as u16 {
         next = put_phrase(buf, next, pool, starts, code);
-        code += 1;
     }
     next
 }
@@ -80,21 +78,14 @@ fn put_sheet(buf: &mut [u8], at: usize, pool: &[u8], starts: &[u16], count: usiz
     put_phrases(buf, a, pool, starts)
 }
 
-// The sheet is measured first; a refusal leaves the buffer as it was.
-pub fn standard_sheet(buf: &mut [u8]) -> Written
+// The sheet is measured first, and its bytes are answered; a refusal leaves the buffer as it was.
+pub fn standard_sheet(buf: &mut [u8]) -> Result<usize, Refusal>
     ensures { StandardSheet buf.old (result, buf.new) }
 {
     let starts = texts::text_starts();
     let pool = texts::pool_bytes();
-    let mut none = [0u8; 0];
-    let count = put_phrases(&mut none, 0, &pool, &starts);
-    let bytes = put_sheet(&mut none, 0, &pool, &starts, count);
-    if buf.len() < bytes {
-        return Written::refused(Reason::ShortBuffer, bytes as u64);
-    }
+    let count = put_phrases(&mut [], 0, &pool, &starts);
+    let bytes = room_for(put_sheet(&mut [], 0, &pool, &starts, count), buf)?;
     put_sheet(buf, 0, &pool, &starts, count);
-    Written {
-        refusal: Refusal::NONE,
-        bytes,
-    }
+    Ok(bytes)
 }

@@ -51,10 +51,7 @@ pub fn copied(answer: Option<usize>, buf: &[u8]) -> usize
 fn held(buf: &[u8], at: usize) -> &[u8]
     ensures { result.now ≡ take at buf.now }
 {
-    if buf.len() < at {
-        return buf;
-    }
-    &buf[0..at]
+    &buf[..at.min(buf.len())]
 }
 
 pub fn flush(buf: &[u8], at: usize) -> usize

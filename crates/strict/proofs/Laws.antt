@@ -8,22 +8,23 @@ use native.Mathlib.Nat.{le_of_suc-le-suc, not-suc-le-zero}
 use native.Mathlib.Numerals.{add-one}
 use native.Mathlib.Omega.{arith}
 use lib.Dec.{T, ltb}
-use lib.ListN.{length, get_or, take, drop}
-use lib.Seq.{drop-cons, drop-length, get_or-take, length-take-le}
-use borrow.Author.Tests.{eq-eqb, ne_eqb, ltb-true}
+use lib.ListN.{length, get_or, drop}
+use lib.Seq.{drop-cons, drop-length}
+use borrow.Author.Tests.{ltb-true}
 use Rattle.promise.specs.Member.{member}
 use Rattle.promise.proofs.Tests.{both_left, both_right, every, every_mem, of-member, true_is}
 use Rattle.lookup.proofs.Numbers.{bits_in}
-use Rattle.refusals.specs.Refusals.{no_refusal, passed, refusal_number}
+use Rattle.refusals.specs.Refusals.{no_refusal, passed}
 use Rattle.refusals.specs.declared.Refusal.{Refusal}
-use Rattle.records.specs.Sets.{list_of, no_record, records_of, set_room}
+use Rattle.records.specs.Sets.{list_of, records_of, set_room}
 use Rattle.records.specs.declared.Record.{Record}
 use Rattle.esr.specs.Decode.{answer_of, refused}
 use Rattle.esr.specs.declared.Answer.{Answer}
 use Rattle.esr.proofs.Laws.{answer-room}
-use Rattle.strict.specs.Code.{fails_as, line_at, no_line, refusal_as, stored}
+use Rattle.strict.specs.Code.{fails_as, lines, refusal_as, stored}
 use Rattle.strict.specs.Strict.{answer_by, fails_by, first_refusal, is_of, record_refusal, refusal_in, strict_answer_of, strictly}
 use Rattle.strict.specs.Stricter.{Stricter, refusal_by, stricter}
+use Rattle.strict.specs.declared.Line.{Line}
 use Rattle.strict.specs.declared.Profile.{Profile}
 use Rattle.strict.specs.declared.Profile.TheVariants.{Ordinary, Strict, Nested}
 
@@ -50,15 +51,17 @@ module _ (nested : Bool) (x : Record) where
   unfolding stored
   stored-refusal d = refl
 
-  turn : (ds : List Stricter) (i k : ℕ) → T (every few_bits k ds) → i < length ds
+  turn : (ds : List Stricter) (i k : ℕ) (l : Line) → T (every few_bits k ds) → i < length ds
       → refusal_in (drop i ds) nested x
-      ≡ cond (fails_as nested x (get_or (map stored ds) i no_line)) (refusal_as (get_or (map stored ds) i no_line) x.value) (refusal_in (drop (suc i) ds) nested x)
+      ≡ cond (fails_as nested x (get_or (map stored ds) i l)) (refusal_as (get_or (map stored ds) i l) x.value)
+      (refusal_in (drop (suc i) ds) nested x)
   unfolding refusal_in
-  turn [] i k few h = absurd (not-suc-le-zero h)
-  turn (d ∷ ds) zero k few h =
-      ap (λ (b : Bool). cond b (refusal_by d x.value) (refusal_in ds nested x)) (sym (stored-fails d k (both_left (few_bits k d) _ few)))
+  turn [] i k l few h = absurd (not-suc-le-zero h)
+  turn (d ∷ ds) zero k l few h =
+      ap (λ (b : Bool). cond b (refusal_by d x.value) (refusal_in ds nested x))
+      (sym (stored-fails d k (both_left (few_bits k d) _ few)))
       ∙ ap (λ (f : Refusal). cond (fails_as nested x (stored d)) f (refusal_in ds nested x)) (sym (stored-refusal d))
-  turn (d ∷ ds) (suc i) k few h = turn ds i (suc k) (both_right (few_bits k d) _ few) (le_of_suc-le-suc h)
+  turn (d ∷ ds) (suc i) k l few h = turn ds i (suc k) l (both_right (few_bits k d) _ few) (le_of_suc-le-suc h)
 
   abbrev left : ℕ → Refusal
   left i = refusal_in (drop i stricter) nested x
@@ -67,40 +70,42 @@ module _ (nested : Bool) (x : Record) where
   unfolding stricter
   four = refl
 
-  asked : (i : ℕ) → i < 4 → left i ≡ cond (fails_as nested x (line_at i)) (refusal_as (line_at i) x.value) (left (i + 1))
-  unfolding line_at
-  asked i h = turn stricter i 0 all-few (omega (arith, four)) ∙ ap (λ (n : ℕ). cond (fails_as nested x (line_at i)) (refusal_as (line_at i) x.value) (left n)) (sym (add-one i))
+  module _ {items : List Line} (are : items ≡ lines) (i : ℕ) (h : i < 4) (l : Line) where
+    asked : left i ≡ cond (fails_as nested x (get_or items i l)) (refusal_as (get_or items i l) x.value) (left (i + 1))
+    unfolding lines
+    asked =
+        rw are
+        (turn stricter i 0 l all-few (omega (arith, four))
+        ∙ ap
+        (λ (n : ℕ). cond (fails_as nested x (get_or lines i l)) (refusal_as (get_or lines i l) x.value) (left n))
+        (sym (add-one i)))
 
-  pub line-fails : (i : ℕ) → i < 4 → fails_as nested x (line_at i) ≡ true → left i ≡ refusal_as (line_at i) x.value
-  line-fails i h e = asked i h ∙ ap (λ (b : Bool). cond b (refusal_as (line_at i) x.value) (left (i + 1))) e
+    pub line-fails : fails_as nested x (get_or items i l) ≡ true → left i ≡ refusal_as (get_or items i l) x.value
+    line-fails e = asked ∙ ap (λ (b : Bool). cond b (refusal_as (get_or items i l) x.value) (left (i + 1))) e
 
-  pub line-passes : (i : ℕ) → i < 4 → fails_as nested x (line_at i) ≡ false → left i ≡ left (i + 1)
-  line-passes i h e = asked i h ∙ ap (λ (b : Bool). cond b (refusal_as (line_at i) x.value) (left (i + 1))) e
+    pub line-passes : fails_as nested x (get_or items i l) ≡ false → left i ≡ left (i + 1)
+    line-passes e = asked ∙ ap (λ (b : Bool). cond b (refusal_as (get_or items i l) x.value) (left (i + 1))) e
 
   pub lines-done : left 4 ≡ no_refusal
   unfolding stricter refusal_in
   lines-done = refl
 
 -- The records from an index on.
-module _ (nested : Bool) (items : List Record) (n i : ℕ) (within : n ≤ length items) (less : i < n) (f : Refusal) (is : f ≡ record_refusal nested (get_or items i no_record)) where
-  looked : first_refusal nested (drop i (take n items)) ≡ cond (passed f) (first_refusal nested (drop (i + 1) (take n items))) f
+module _ (nested : Bool) (xs : List Record) (i : ℕ) (less : i < length xs) (d : Record) {f : Refusal}
+    (is : f ≡ record_refusal nested (get_or xs i d)) where
+  looked : first_refusal nested (drop i xs) ≡ cond (passed f) (first_refusal nested (drop (i + 1) xs)) f
   unfolding first_refusal
-  looked =
-      let l : length (take n items) ≡ n = length-take-le n items within in
-      let h : i < length (take n items) = omega arith in
-      rw (add-one, drop-cons (take n items) i no_record h, get_or-take n items i no_record less, ← is) refl
+  looked = rw (add-one, drop-cons xs i d less, ← is) refl
 
-  pub record_fails : (refusal_number f ≡ 0 → ⊥) → first_refusal nested (drop i (take n items)) ≡ f
-  record_fails h = looked ∙ ap (λ (b : Bool). cond b (first_refusal nested (drop (i + 1) (take n items))) f) (ne_eqb (refusal_number f) 0 h)
+  pub record_fails : passed f ≡ false → first_refusal nested (drop i xs) ≡ f
+  record_fails e = looked ∙ ap (λ (b : Bool). cond b (first_refusal nested (drop (i + 1) xs)) f) e
 
-  pub record_passes : refusal_number f ≡ 0 → first_refusal nested (drop i (take n items)) ≡ first_refusal nested (drop (i + 1) (take n items))
-  record_passes h = looked ∙ ap (λ (b : Bool). cond b (first_refusal nested (drop (i + 1) (take n items))) f) (eq-eqb (refusal_number f) 0 h)
+  pub record_passes : passed f ≡ true → first_refusal nested (drop i xs) ≡ first_refusal nested (drop (i + 1) xs)
+  record_passes e = looked ∙ ap (λ (b : Bool). cond b (first_refusal nested (drop (i + 1) xs)) f) e
 
-pub records-done : (nested : Bool) (items : List Record) (n : ℕ) → n ≤ length items → first_refusal nested (drop n (take n items)) ≡ no_refusal
+pub records-done : (nested : Bool) (xs : List Record) → first_refusal nested (drop (length xs) xs) ≡ no_refusal
 unfolding first_refusal
-records-done nested items n h =
-    let e : length (take n items) ≡ n = length-take-le n items h in
-    ap (λ (k : ℕ). first_refusal nested (drop k (take n items))) (sym e) ∙ ap (first_refusal nested) (drop-length (take n items))
+records-done nested xs = ap (first_refusal nested) (drop-length xs)
 
 -- The answer.
 module _ (nested : Bool) (esr : ℕ) (a : Answer) (is : a ≡ answer_of esr) where
@@ -110,16 +115,16 @@ module _ (nested : Bool) (esr : ℕ) (a : Answer) (is : a ≡ answer_of esr) whe
   by_tests p q e f =
       ap₂ (λ (x y : Bool). cond (x && not y) (refused (first_refusal nested (list_of a.records))) a) (sym e) (sym f) ∙ ap (strictly nested) is
 
-  pub ordinarily_refused : (refusal_number a.refusal ≡ 0 → ⊥) → a ≡ strict_answer_of nested esr
-  ordinarily_refused h = by_tests false _ (ne_eqb (refusal_number a.refusal) 0 h) refl
+  pub ordinarily_refused : passed a.refusal ≡ false → a ≡ strict_answer_of nested esr
+  ordinarily_refused e = by_tests false _ e refl
 
-  module _ (f : Refusal) (first : f ≡ first_refusal nested (list_of a.records)) (h : refusal_number a.refusal ≡ 0) where
-    pub strictly-refused : (refusal_number f ≡ 0 → ⊥) → refused f ≡ strict_answer_of nested esr
-    strictly-refused n =
-        ap refused first ∙ by_tests true false (eq-eqb (refusal_number a.refusal) 0 h) (ap passed (sym first) ∙ ne_eqb (refusal_number f) 0 n)
+  module _ (accepted : passed a.refusal ≡ true) where
+    pub strictly-refused : {f : Refusal} → f ≡ first_refusal nested (list_of a.records)
+        → passed (first_refusal nested (list_of a.records)) ≡ false → refused f ≡ strict_answer_of nested esr
+    strictly-refused first e = ap refused first ∙ by_tests true false accepted e
 
-    pub strictly-accepted : refusal_number f ≡ 0 → a ≡ strict_answer_of nested esr
-    strictly-accepted n = by_tests true true (eq-eqb (refusal_number a.refusal) 0 h) (ap passed (sym first) ∙ eq-eqb (refusal_number f) 0 n)
+    pub strictly-accepted : passed (first_refusal nested (list_of a.records)) ≡ true → a ≡ strict_answer_of nested esr
+    strictly-accepted e = by_tests true true accepted e
 
 -- What the ordinary decoder refuses has the same answer by every profile.
 strictly-alike : (nested : Bool) (esr : ℕ) → passed (answer_of esr).refusal ≡ false → strict_answer_of nested esr ≡ answer_of esr

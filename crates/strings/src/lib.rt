@@ -11,7 +11,7 @@ use buffer::{put_bytes, put_text};
 use digits::{Base, put_digits, put_number};
 use texts::rules;
 
-// The number of the refusal that names a field.
+// The number of the refusal that names a field. A number and no Reason: kept, `MessagePut` speaks of any number.
 pub const RES0: u64 = 1;
 
 // Which of a field's two value strings.

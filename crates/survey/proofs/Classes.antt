@@ -1,16 +1,18 @@
 -- Every value is counted at one place: that of its class if it is accepted, else that of the number that refuses it, which a value can be refused by.
 use Prim.Native.Nat.{ℕ, ◌≤◌, ◌<◌}
-use mathlib.Core.Bool.{Bool, false, ◌&&◌}
+use mathlib.Core.Bool.{Bool, false, true, true≢false, ◌&&◌}
 use mathlib.Core.List.{Memᴰ}
 use mathlib.Core.Logic.{◌⊎◌, inl, inr}
-use mathlib.Core.Path.{◌≡◌, refl, ap, ◌∙◌}
+use mathlib.Core.Path.{◌≡◌, refl, sym, ap, ◌∙◌}
 use native.Mathlib.Omega.{arith}
 use lib.Dec.{eqb, leb, leb→le}
-use borrow.Author.Tests.{ne_eqb}
+use borrow.Author.Tests.{eqb-false, eqb-true, ne_eqb}
+use Rattle.std.specs.Option.{unwrap_or}
+use Rattle.std.specs.Prelude.{Option, None, Some}
 use Rattle.promise.proofs.Tests.{every_mem}
 use Rattle.refusals.specs.Refusals.{no_refusal, refusal_number}
 use Rattle.refusals.specs.Values.{value_number, value_place}
-use Rattle.refusals.proofs.Laws.{no_zero, one_place, place-small}
+use Rattle.refusals.proofs.Laws.{no_zero, one_place, place-small, place-some, place_or_9, zero-unplaced}
 use Rattle.records.proofs.Laws.{field_lt}
 use Rattle.esr.specs.Decode.{answer_of, class_of}
 use Rattle.reading.specs.Refusing.{refusing}
@@ -44,12 +46,33 @@ module _ (profile : Profile) (esr : ℕ) where
     unfolding is_of_class
     refused-class q l = ap (λ (b : Bool). b && eqb (class_of esr) q) (ne_eqb number_of 0 h)
 
-    pub refused-small : value_place number_of < 9
+    pub refused-some : value_place number_of ≡ Some (place_or_9 number_of)
+    refused-some = place-some number_of (refused-listed profile esr h)
+
+    pub refused-small : place_or_9 number_of < 9
     refused-small = place-small number_of (refused-listed profile esr h)
 
-    pub refused-place : (q : ℕ) → q < 9 → is_refused_at profile q esr ≡ eqb (value_place number_of) q
+    pub refused-place : (q : ℕ) → q < 9 → is_refused_at profile q esr ≡ eqb (place_or_9 number_of) q
     unfolding is_refused_at
     refused-place q l = one_place number_of (refused-listed profile esr h) q l
+
+  -- a value is refused just where its number has a place
+  abbrev is_some : Option ℕ → Bool
+  is_some None = false
+  is_some (Some k) = true
+
+  pub placed-refused : {k : ℕ} → value_place number_of ≡ Some k → (number_of ≡ 0 → ⊥)
+  placed-refused e h = true≢false (ap is_some (sym e ∙ ap value_place h ∙ zero-unplaced))
+
+  pub placed-there : {k : ℕ} → value_place number_of ≡ Some k → k ≡ place_or_9 number_of
+  placed-there {k} e = sym (ap (λ (o : Option ℕ). unwrap_or o 9) e)
+
+  pub unplaced-accepted : value_place number_of ≡ None → number_of ≡ 0
+  unplaced-accepted e = by (eqb number_of 0) refl
+    where
+      by : (b : Bool) → eqb number_of 0 ≡ b → number_of ≡ 0
+      by true f = eqb-true number_of 0 f
+      by false f = absurd (true≢false (ap is_some (sym (refused-some (eqb-false number_of 0 f)) ∙ e)))
 
 -- the ordinary decoder refuses by no number above 7
 pub ordinary-small : (esr : ℕ) → number_of Ordinary esr ≤ 7

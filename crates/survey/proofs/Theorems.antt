@@ -10,7 +10,8 @@ use lib.Dec.{eqb}
 use lib.ListN.{length, get_or, take}
 use borrow.Author.Tests.{eqb-true, eqb-false, ne_eqb}
 use Rattle.esr.specs.Decode.{class_of}
-use Rattle.refusals.specs.Values.{value_numbers, value_place}
+use Rattle.refusals.specs.Values.{value_numbers}
+use Rattle.refusals.proofs.Laws.{place_or_9}
 use Rattle.strict.specs.declared.Profile.{Profile}
 use Rattle.strict.specs.declared.Profile.TheVariants.{Ordinary}
 use Rattle.survey.specs.Surveys.{how_many, counts, is_of_class, is_refused_at, class_counts, refused_counts}
@@ -105,7 +106,7 @@ module _ (profile : Profile) where
       by false f =
           let h = eqb-false (number_of profile v) 0 f in
           let c = ones-nowhere is_class v 0 64 (λ q l. refused-class profile v h q) in
-          let r = ones-there is_refused v (value_place (number_of profile v)) 9 (refused-place profile v h) 0 9 (omega arith) (omega arith) (refused-small profile v h) in
+          let r = ones-there is_refused v (place_or_9 (number_of profile v)) 9 (refused-place profile v h) 0 9 (omega arith) (omega arith) (refused-small profile v h) in
           omega arith
 
   -- all counts together equal the number of values

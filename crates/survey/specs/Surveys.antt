@@ -1,8 +1,8 @@
 -- #101: what a survey counts. "Each count defined from the list itself and not from the others."
-use Rattle.std.specs.Prelude.{ℕ, zero, suc, ◌+◌, ◌^◌, Bool, cond, not, ◌&&◌, List, [], ◌∷◌, eqb, leb, length, replicate, take}
-use Rattle.refusals.specs.Refusals.{refusal_number, bare, no_refusal, passed}
-use Rattle.refusals.specs.declared.Reason.{Reason}
+use Rattle.std.specs.Prelude.{ℕ, zero, suc, ◌+◌, ◌^◌, Bool, cond, not, ◌&&◌, List, [], ◌∷◌, eqb, leb, length, take, Result, Ok, Err}
+use Rattle.refusals.specs.Refusals.{refusal_number, bare, passed}
 use Rattle.refusals.specs.declared.Reason.TheVariants.{BadTable, LongRun}
+use Rattle.refusals.specs.declared.Refusal.{Refusal}
 use Rattle.refusals.specs.Values.{value_number}
 use Rattle.esr.specs.Decode.{class_of}
 use Rattle.strict.specs.Strict.{answer_by}
@@ -39,14 +39,10 @@ refused_counts profile vs = counts (is_refused_at profile) 0 9 vs
 abbrev pub ordinary_of : Tally → List ℕ
 ordinary_of t = take 7 t.refused
 
--- a survey that is refused counts nothing
-abbrev pub nothing : Reason → Tally
-nothing reason = record { refusal = bare reason; refused = replicate 9 0 }
-
 -- "18 if the lent table hasn't exactly 64 places, then 19 if the run has 2^32 or more values", and the table stays; else the counts, whatever
 -- the table held
-unfoldable pub survey_of : Profile → List ℕ → List ℕ → Tally × List ℕ
+unfoldable pub survey_of : Profile → List ℕ → List ℕ → Result Tally Refusal × List ℕ
 survey_of profile values before =
-    cond (not (eqb (length before) 64)) (nothing BadTable, before)
-    (cond (leb (2 ^ 32) (length values)) (nothing LongRun, before)
-    (record { refusal = no_refusal; refused = refused_counts profile values }, class_counts profile values))
+    cond (not (eqb (length before) 64)) (Err (bare BadTable), before)
+    (cond (leb (2 ^ 32) (length values)) (Err (bare LongRun), before)
+    (Ok (record { refused = refused_counts profile values }), class_counts profile values))

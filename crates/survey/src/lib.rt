@@ -3,7 +3,7 @@
 
 ghost use Rattle.std.specs.Prelude.{◌+◌, ◌^◌, ◌<◌, get_or, length, replicate, set, ◌≡◌};
 ghost use Rattle.survey.specs.Promises.{OrdinaryCounts, Surveyed};
-ghost use Rattle.survey.specs.Surveys.{class_counts, is_of_class, is_refused_at, nothing, refused_counts};
+ghost use Rattle.survey.specs.Surveys.{class_counts, is_of_class, is_refused_at, refused_counts};
 ghost use Rattle.survey.specs.Tallies.{Noted, Roomy};
 
 use refusals::{Reason, Refusal, VALUE_NUMBERS, value_place};
@@ -15,10 +15,9 @@ const CLASSES: usize = 64;
 // No count of fewer values passes 32 bits.
 const LIMIT: usize = 1 << 32;
 
-// How many values each of the refusals refused that a value can have, in the order of their numbers; none where the survey itself is refused.
+// How many values each of the refusals refused that a value can have, in the order of their numbers.
 #[derive(Clone, Copy)]
 pub struct Tally {
-    pub refusal: Refusal,
     pub refused: [u32; VALUE_NUMBERS],
 }
 
@@ -29,16 +28,6 @@ impl Tally {
     {
         let all = self.refused;
         [all[0], all[1], all[2], all[3], all[4], all[5], all[6]]
-    }
-}
-
-fn clear(counts: &mut [u32])
-    ensures { counts.new ≡ replicate (length counts.old) 0 }
-{
-    let mut k: usize = 0;
-    while k < counts.len() {
-        counts[k] = 0;
-        k += 1;
     }
 }
 
@@ -55,13 +44,10 @@ fn note(profile: Profile, esr: u64, counts: &mut [u32], refused: &mut [u32; VALU
     requires { (length counts.old ≡ 64) × (length refused.old ≡ 9) × Roomy counts.old × Roomy refused.old }
     ensures { Noted (is_of_class profile) esr counts.old counts.new × Noted (is_refused_at profile) esr refused.old refused.new }
 {
-    let answer = decode_by(profile, esr);
-    let refusal = answer.refusal;
-    let number = refusal.number();
-    if number == 0 {
-        add_one(counts, records::field(esr, 26, 6) as usize);
-    } else {
-        add_one(refused, value_place(number));
+    let refusal = decode_by(profile, esr).refusal;
+    match value_place(refusal.number()) {
+        Some(place) => add_one(refused, place),
+        None => add_one(counts, records::field(esr, 26, 6) as usize),
     }
 }
 
@@ -75,37 +61,23 @@ fn note_all(
     requires { (length values.now < 2 ^ 32) × (counts.old ≡ replicate 64 0) × (refused.old ≡ replicate 9 0) }
     ensures { (counts.new ≡ class_counts profile values.now) × (refused.new ≡ refused_counts profile values.now) }
 {
-    let mut i: usize = 0;
-    while i < values.len() {
-        note(profile, values[i], counts, refused);
-        i += 1;
-    }
-}
-
-fn refuse(reason: Reason) -> Tally
-    ensures { result ≡ nothing reason }
-{
-    Tally {
-        refusal: Refusal::carrying(reason, 0),
-        refused: [0; VALUE_NUMBERS],
+    for value in values {
+        note(profile, *value, counts, refused);
     }
 }
 
 // The profile says which values are accepted (#110).
-pub fn survey(profile: Profile, values: &[u64], counts: &mut [u32]) -> Tally
+pub fn survey(profile: Profile, values: &[u64], counts: &mut [u32]) -> Result<Tally, Refusal>
     ensures { Surveyed (profile, values.now, counts.old) (result, counts.new) }
 {
     if counts.len() != CLASSES {
-        return refuse(Reason::BadTable);
+        return Err(Refusal::carrying(Reason::BadTable, 0));
     }
     if LIMIT <= values.len() {
-        return refuse(Reason::LongRun);
+        return Err(Refusal::carrying(Reason::LongRun, 0));
     }
-    let mut refused: [u32; VALUE_NUMBERS] = [0; VALUE_NUMBERS];
-    clear(counts);
+    let mut refused = [0; VALUE_NUMBERS];
+    counts.fill(0);
     note_all(profile, values, counts, &mut refused);
-    Tally {
-        refusal: Refusal::NONE,
-        refused,
-    }
+    Ok(Tally { refused })
 }

@@ -1,16 +1,15 @@
 -- What the definitions give under the tests that the code made: by computing, and for the loops by one turn and the end of each.
-use Prim.Native.Nat.sub
 use Prim.Native.Nat.{ℕ, zero, suc, ◌+◌, ◌-◌, ◌^◌, ◌≤◌, ◌<◌}
 use mathlib.Core.Bool.{Bool, true, false, false≢true, ◌&&◌}
 use mathlib.Core.List.{List, [], ◌∷◌, ◌++◌, append_assoc, append-nil}
-use mathlib.Core.Path.{◌≡◌, refl, sym, ap, subst, ◌∙◌}
+use mathlib.Core.Path.{◌≡◌, refl, sym, ap, ap₂, subst, ◌∙◌}
 use native.Mathlib.Numerals.{add-one}
 use native.Mathlib.Omega.{arith}
-use native.Mathlib.Nat.{add-suc, add-zero, le_of_suc-le-suc, not-suc-le-zero, suc-add, zero-add}
+use native.Mathlib.Nat.{add-suc, add-zero, suc-add, zero-add}
 use lib.Dec.{T, eqb, leb, ltb, leb→le}
 use lib.ListN.{length, get_or, set, take, drop, drop_of_length-le, length-drop, length-set}
 use lib.Seq.{drop-cons, take_all, take_at}
-use borrow.Author.Tests.{le-leb, lt-leb, lt-ltb, le-ltb, eq-eqb, ne_eqb}
+use borrow.Author.Tests.{lt-ltb, le-ltb, eq-eqb, eqb-false, eqb-true, ne_eqb}
 use Rattle.buffer.proofs.Appending.{measured, written}
 use Rattle.buffer.specs.Appending.{Appends}
 use Rattle.digits.specs.Digits.{digits_of, enough, numeral, unpadded}
@@ -20,7 +19,11 @@ use Rattle.number.specs.Rest.{whole_of}
 use Rattle.number.specs.declared.Number.{Number}
 use Rattle.promise.proofs.Tests.{from, from_at}
 use Rattle.refusals.specs.Values.{value_number, value_numbers}
-use Rattle.survey_reply.specs.Counts.{count_from, place_from, place_of, read_count, unsaid}
+use Rattle.std.specs.List as list
+use Rattle.refusals.specs.Refusals.{passed}
+use Rattle.std.specs.Prelude.{None, Some, nat_eq}
+use Rattle.survey_reply.specs.Counts.{LabelOf, count_from, place_from, place_of, read_count}
+use Rattle.survey_reply.specs.declared.Labelled.{Labelled}
 use Rattle.survey_reply.specs.Replies.{count_line, front, is_said, label, said_from, said_line}
 use Rattle.survey_reply.specs.Sums.{add_count, add_each, add_run}
 use Rattle.texts.specs.Pool.{bytes}
@@ -43,24 +46,6 @@ module _ (place : ℕ) where
 -- Which places are said.
 
 module _ (all : Bool) (place count : ℕ) where
-  pub said-last : 73 ≤ place → true ≡ is_said all place count
-  unfolding is_said
-  said-last h = rw (le-leb 73 place h)
-
-  module _ (h : place < 73) where
-    pub unsaid-zero : count ≡ 0 → false ≡ is_said all place count
-    unfolding is_said
-    unsaid-zero z = rw (lt-leb 73 place h, eq-eqb count 0 z)
-
-    module _ (n : count ≡ 0 → ⊥) where
-      pub said-class : place < 64 → true ≡ is_said all place count
-      unfolding is_said
-      said-class l = rw (lt-leb 73 place h, ne_eqb count 0 n, lt-ltb place 64 l)
-
-      pub said-refusal : 64 ≤ place → all ≡ is_said all place count
-      unfolding is_said
-      said-refusal l = rw (lt-leb 73 place h, ne_eqb count 0 n, le-ltb place 64 l)
-
   pub line-said : is_said all place count ≡ true → said_line all place count ≡ count_line place count
   unfolding said_line
   line-said e = rw e
@@ -84,26 +69,24 @@ pub no_place_yet : (all : Bool) (totals : List ℕ) → said_from all totals 0 0
 unfolding said_from
 no_place_yet all totals = refl
 
--- How a line begins.
+-- How a line begins: as the library says it.
 
-module _ (text line : List ℕ) (i : ℕ) where
-  pub begins_done : length text ≤ i → starts_with (drop i text) (drop i line) ≡ true
-  unfolding starts_with
-  begins_done h = rw (drop_of_length-le text h)
+swapped : (a b : ℕ) → eqb a b ≡ eqb b a
+swapped a b = by (eqb b a) refl
+  where
+    by : (e : Bool) → eqb b a ≡ e → eqb a b ≡ e
+    by true e = eq-eqb a b (sym (eqb-true b a e))
+    by false e = ne_eqb a b (λ same. eqb-false b a e (sym same))
 
-  module _ (h : i < length text) where
-    pub begins_short : length line ≤ i → starts_with (drop i text) (drop i line) ≡ false
-    unfolding starts_with
-    begins_short l = rw (drop-cons text i 0 h, drop_of_length-le line l)
-
-    module _ (l : i < length line) where
-      pub begins_other : (get_or line i 0 ≡ get_or text i 0 → ⊥) → starts_with (drop i text) (drop i line) ≡ false
-      unfolding starts_with
-      begins_other n = rw (drop-cons text i 0 h, drop-cons line i 0 l, ne_eqb (get_or line i 0) (get_or text i 0) n)
-
-      pub begins_more : get_or line i 0 ≡ get_or text i 0 → starts_with (drop i text) (drop i line) ≡ starts_with (drop (i + 1) text) (drop (i + 1) line)
-      unfolding starts_with
-      begins_more e = rw (drop-cons text i 0 h, drop-cons line i 0 l, eq-eqb (get_or line i 0) (get_or text i 0) e, add-one i)
+pub begins : (line text : List ℕ) → list.starts_with nat_eq line text ≡ starts_with text line
+unfolding starts_with
+begins line [] = refl
+begins [] (p ∷ text) = refl
+begins (b ∷ line) (p ∷ text) = by (eqb p b) (eqb b p) (swapped p b) (begins line text)
+  where
+    by : (e f : Bool) → e ≡ f → list.starts_with nat_eq line text ≡ starts_with text line
+        → (e && list.starts_with nat_eq line text) ≡ (f && starts_with text line)
+    by e f is rest = ap₂ (λ (x y : Bool). x && y) is rest
 
 -- a line is as long as what begins it
 pub begun-long : (text line : List ℕ) → starts_with text line ≡ true → length text ≤ length line
@@ -135,9 +118,10 @@ module _ (place : ℕ) (h : place < 74) {l : List ℕ} (sixteen : length l ≡ 1
   pub front-within : n ≤ 16
   front-within = omega (arith, front-next, front-short place h)
 
-  pub front_put : take (n - 0) after ≡ front place
+  pub front_put : take n after ≡ front place
   front_put =
-      rw (sub.zero, written p (omega (arith, front-short place h)) (omega (arith, front-short place h))) (take_at (front place) (drop (length (front place)) l) n (sym front-next))
+      rw (written p (omega (arith, front-short place h)) (omega (arith, front-short place h)))
+      (take_at (front place) (drop (length (front place)) l) n (sym front-next))
 
 -- The first place whose label begins a line.
 
@@ -157,30 +141,30 @@ pub place_none : (line : List ℕ) (place : ℕ) → 74 ≤ place → place_from
 unfolding place_from
 place_none line place h = let e : 74 - place ≡ 0 = omega arith in rw e
 
+-- what a number behind a label counts
+module _ (place : ℕ) (n : Number) where
+  pub count-none : passed n.refusal ≡ false → count_from place n ≡ None
+  count-none e = rw e refl
+
+  pub count-some : passed n.refusal ≡ true → count_from place n ≡ Some (record { count = n.value; place = place })
+  count-some e = rw e refl
+
 -- what is read of a line
 module _ (line : List ℕ) where
-  count-read : place_of line < 74 → read_count line ≡ count_from (place_of line) (whole_of (drop (length (front (place_of line))) line))
-  unfolding read_count
-  count-read h = rw (lt-ltb (place_of line) 74 h)
-
-  pub count_unread : 74 ≤ place_of line → read_count line ≡ unsaid
+  pub count_unread : 74 ≤ place_of line → read_count line ≡ None
   unfolding read_count
   count_unread h = rw (le-ltb (place_of line) 74 h)
 
   -- by the place that was found, and the number that was read after its label
-  pub found-read : {place next : ℕ} {number : Number} → place ≡ place_of line → place < 74 → next ≡ length (front place)
-      → number ≡ whole_of (take (length line - next) (drop next line)) → count_from place number ≡ read_count line
-  found-read {place} {next} is h e n =
-      let all : take (length line - next) (drop next line) ≡ drop next line = take_all (length line - next) (drop next line) (omega (arith, length-drop next line)) in
-      sym (count-read (omega (arith, is)) ∙ rw (← is, ← e, n, all))
+  pub found-read : {l : Labelled} {number : Number} → LabelOf line l
+      → number ≡ whole_of (take (length line - l.next) (drop l.next line)) → count_from l.place number ≡ read_count line
+  unfolding read_count
+  found-read {l} {number} of n =
+      let all : take (length line - l.next) (drop l.next line) ≡ drop l.next line =
+      take_all (length line - l.next) (drop l.next line) (omega (arith, length-drop l.next line)) in
+      rw (← of.0, lt-ltb l.place 74 of.1, ← of.2, n, all)
 
 -- Sums.
-
--- past the end nothing is counted
-pub none-past : (totals : List ℕ) (place : ℕ) → length totals ≤ place → 0 ≡ get_or totals place 0
-none-past [] place h = refl
-none-past (t ∷ totals) zero h = absurd (not-suc-le-zero h)
-none-past (t ∷ totals) (suc place) h = none-past totals place (le_of_suc-le-suc h)
 
 module _ (totals : List ℕ) (place count : ℕ) where
   pub no_place : length totals ≤ place → add_count totals place count ≡ (false, totals)

@@ -14,7 +14,9 @@ use Rattle.digits.specs.Digits.{digit_char, digits_of, enough, numeral, unpadded
 use Rattle.number.specs.Digits.{digit_of}
 use Rattle.number.specs.Numbers.{starts_with}
 use Rattle.promise.proofs.Tests.{from, from_at}
-use Rattle.refusals.specs.Values.{place_in, value_numbers, value_place}
+use Rattle.refusals.proofs.Laws.{place_or_9}
+use Rattle.refusals.specs.Values.{value_numbers, value_place}
+use Rattle.std.specs.Prelude.{Some}
 use Rattle.survey_reply.proofs.Numerals.{numeral-whole}
 use Rattle.survey_reply.specs.Counts.{place_from, place_of, read_count}
 use Rattle.survey_reply.specs.Replies.{count_text, front, label, no_number}
@@ -44,14 +46,14 @@ told_at i line = cond (eqb (get_or line (i + 1) 0) (code " ")) (digit_of (get_or
 abbrev told_by : List ℕ → ℕ
 told_by line =
     cond (eqb (get_or line 0 0) (code "0")) (digit_of (get_or line 2 0) * 16 + digit_of (get_or line 3 0))
-    (cond (eqb (get_or line 0 0) (code "r")) (64 + value_place (told_at 8 line))
+    (cond (eqb (get_or line 0 0) (code "r")) (64 + place_or_9 (told_at 8 line))
     no_number)
 
 abbrev tells : List ℕ → ℕ → Bool
 tells w place = eqb (told_by (front place ++ w)) place
 
 all_tell : (w : List ℕ) → T (from (tells w) 0 74)
-unfolding front label bytes digits_of digit_char unpadded enough digit_of value_numbers place_in
+unfolding front label bytes digits_of digit_char unpadded enough digit_of value_numbers value_place
 all_tell w = tt
 
 label-tells : (place : ℕ) (w : List ℕ) → place < 74 → told_by (front place ++ w) ≡ place
@@ -89,7 +91,7 @@ module _ (place : ℕ) (h : place < 74) (w : List ℕ) where
       (omega arith)
 
 -- a line that a survey writes of a place is read back as that place and count
-pub read_back : (place count : ℕ) → place < 74 → count < 2 ^ 64 → read_count (count_text place count) ≡ record { count = count; place = place; said = true }
+pub read_back : (place count : ℕ) → place < 74 → count < 2 ^ 64 → read_count (count_text place count) ≡ Some (record { count = count; place = place })
 unfolding read_count count_text
 read_back place count h small =
     rw (place_found place h (numeral 10 count), lt-ltb place 74 h, drop_at (front place) (numeral 10 count) (length (front place)) refl, numeral-whole count small)

@@ -1,5 +1,5 @@
 -- What each public function promises: of what comes in, with what lent memory holds before, what comes out, with what it holds after.
-use Rattle.std.specs.Prelude.{ℕ, Bool, List, ◌≡◌}
+use Rattle.std.specs.Prelude.{ℕ, Bool, List, Option, ◌≡◌}
 use Rattle.buffer.specs.Appending.{Appends}
 use Rattle.survey_reply.specs.Counts.{read_count}
 use Rattle.survey_reply.specs.Replies.{survey_text}
@@ -10,8 +10,8 @@ use Rattle.survey_reply.specs.declared.Count.{Count}
 abbrev pub SurveyPut : List ℕ × ℕ × List ℕ × Bool → ℕ × List ℕ → Type 0
 SurveyPut (before, at, totals, all) out = Appends (survey_text all totals) (at, before) out
 
--- the place and the count of a line
-abbrev pub CountRead : List ℕ → Count → Type 0
+-- the place and the count of a line; None where it is none of a survey's
+abbrev pub CountRead : List ℕ → Option Count → Type 0
 CountRead line r = r ≡ read_count line
 
 -- one count more in the totals

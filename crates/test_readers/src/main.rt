@@ -12,6 +12,8 @@ ghost use Rattle.std.specs.Prelude.{◌≡◌, ◌<◌, length};
 
 use buffer::put_bytes;
 use digits::{Base, put_number};
+use entry::Entry;
+use number::NumberRead;
 use refusals::Refusal;
 use streams::{STDIN, STDOUT};
 
@@ -58,7 +60,7 @@ fn with_line(run: Run, line: Line) -> Run {
     if check::same(&before, &now) {
         return Run {
             line,
-            count: std::num::wrapping_add_u64(run.count, 1),
+            count: run.count.wrapping_add(1),
         };
     }
     say_run(run);
@@ -86,9 +88,11 @@ fn number_line(text: &[u8]) -> Line {
 }
 
 fn front_line(text: &[u8]) -> Line {
-    let read = number::read_number(text);
+    let answer = number::read_number(text);
+    let read = answer.unwrap_or(NumberRead { value: 0, taken: 0 });
+    let refusal = answer.err().unwrap_or(Refusal::NONE);
     let mut bytes = [0u8; WIDTH];
-    let mut at = put_head(&mut bytes, read.refusal, read.value);
+    let mut at = put_head(&mut bytes, refusal, read.value);
     at = put_bytes(&mut bytes, at, b" ");
     at = put_number(&mut bytes, at, Base::Decimal, read.taken as u64);
     Line { bytes, length: at }
@@ -97,20 +101,23 @@ fn front_line(text: &[u8]) -> Line {
 // Each byte after a space.
 fn put_each(buf: &mut [u8], from: usize, bytes: &[u8]) -> usize {
     let mut at = from;
-    let mut i: usize = 0;
-    while i < bytes.len() {
+    for byte in bytes {
         at = put_bytes(buf, at, b" ");
-        at = put_number(buf, at, Base::Hex, wide(bytes[i]));
-        i += 1;
+        at = put_number(buf, at, Base::Hex, wide(*byte));
     }
     at
 }
 
 fn entry_line(block: &[u8]) -> Line {
-    let entry = entry::read_entry(block);
+    let read = entry::read_entry(block);
+    let entry = read.unwrap_or(Entry {
+        esr: 0,
+        sequence: 0,
+    });
+    let refusal = read.err().unwrap_or(Refusal::NONE);
     let body = entry::entry_body(block);
     let mut bytes = [0u8; WIDTH];
-    let mut at = put_head(&mut bytes, entry.refusal, entry.sequence as u64);
+    let mut at = put_head(&mut bytes, refusal, entry.sequence as u64);
     at = put_bytes(&mut bytes, at, b" ");
     at = put_number(&mut bytes, at, Base::Hex, entry.esr);
     at = put_each(&mut bytes, at, body);
@@ -142,10 +149,8 @@ fn spell(letters: &[u8], index: u64, text: &mut [u8]) -> u64 {
     }
     let base = letters.len() as u64;
     let mut rest = index;
-    let mut at = text.len();
-    while 0 < at {
-        at -= 1;
-        text[at] = letter(letters, rest);
+    for byte in text.iter_mut().rev() {
+        *byte = letter(letters, rest);
         rest /= base;
     }
     rest
@@ -153,13 +158,11 @@ fn spell(letters: &[u8], index: u64, text: &mut [u8]) -> u64 {
 
 fn with_words(run: Run, kind: u8, letters: &[u8], text: &mut [u8]) -> Run {
     let mut next = run;
-    let mut index: u64 = 0;
-    while index < WORDS {
+    for index in 0..WORDS {
         if spell(letters, index, text) != 0 {
             return next;
         }
         next = with_line(next, line_of(kind, text));
-        index += 1;
     }
     next
 }
@@ -167,44 +170,25 @@ fn with_words(run: Run, kind: u8, letters: &[u8], text: &mut [u8]) -> Run {
 // Every word of each length.
 fn with_lengths(run: Run, kind: u8, letters: &[u8], least: usize, greatest: usize) -> Run {
     let mut next = run;
-    let mut length = least;
-    while length <= greatest {
-        if LETTERS < length {
-            return next;
-        }
+    for length in least..=greatest.min(LETTERS) {
         let mut text = [0u8; LETTERS];
         next = with_words(next, kind, letters, &mut text[0..length]);
-        length += 1;
     }
     next
 }
 
 fn with_parts(run: Run, kind: u8, block: &[u8], least: usize, greatest: usize) -> Run {
     let mut next = run;
-    let mut length = least;
-    while length <= greatest {
-        if block.len() < length {
-            return next;
-        }
+    for length in least..=greatest.min(block.len()) {
         let line = line_of(kind, &block[0..length]);
         next = with_line(next, line);
-        length += 1;
     }
     next
 }
 
-fn byte_or_filling(bytes: &[u8], index: usize) -> u8 {
-    if index < bytes.len() {
-        return bytes[index];
-    }
-    0xFF
-}
-
 fn lay(block: &mut [u8], bytes: &[u8]) {
-    let mut i: usize = 0;
-    while i < block.len() {
-        block[i] = byte_or_filling(bytes, i);
-        i += 1;
+    for (i, byte) in block.iter_mut().enumerate() {
+        *byte = bytes.get(i).copied().unwrap_or(0xFF);
     }
 }
 
@@ -217,13 +201,8 @@ fn room() -> [u8; LONGEST]
 // The number of at most three bytes, highest first.
 fn number_at(s: &[u8], from: usize, to: usize) -> usize {
     let mut number: u64 = 0;
-    let mut i = from;
-    while i < to {
-        if s.len() <= i {
-            return number as usize;
-        }
+    for i in from..to.min(s.len()) {
         number = number % 0x10000 * 0x100 + wide(s[i]);
-        i += 1;
     }
     number as usize
 }
@@ -254,6 +233,7 @@ fn answer(requests: &[u8], block: &mut [u8]) -> Run {
         count: 0,
     };
     let mut at: usize = 0;
+    // Kept, no plainer: each request says how long it is.
     while at < requests.len() {
         if requests.len() - at < HEAD {
             return run;

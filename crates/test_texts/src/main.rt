@@ -8,9 +8,8 @@ ghost use Rattle.std.specs.Prelude.{◌≡◌, length};
 
 use number::{Number, NumberState};
 use records::{Record, Records};
-use refusals::Refusal;
+use refusals::{Reason, Refusal};
 use streams::{STDIN, STDOUT};
-use written::Written;
 
 // Longer than any listing by more than MORE: a part of it that a call wants and it has not counts as wrong.
 const ROOM: usize = 4096;
@@ -23,87 +22,48 @@ const NO_TEXT: usize = 32;
 // Stands in no text.
 const SENTINEL: u8 = 0xFF;
 
-// 01's number of a text that is longer than the buffer; it carries the bytes needed.
-const SHORT_BUFFER: u64 = 11;
-
-// What is called, by number. An enum of calls would take the prover half as long again.
-const LISTING: u8 = 0;
-
-const RECORD_LINE: u8 = 1;
-
-const MESSAGE: u8 = 2;
-
-const VALUE: u8 = 3;
-
-const BINARY: u8 = 4;
-
-// A function, and what it is called with; only a message has a start and a width.
+// A function, and what it is called with.
 #[derive(Clone, Copy)]
-struct Call {
-    function: u8,
-    first: u64,
-    second: u64,
-    start: u64,
-    width: u64,
+enum Call {
+    Listing {
+        esr: u64,
+    },
+    RecordLine {
+        esr: u64,
+        index: usize,
+    },
+    Message {
+        number: u64,
+        carried: u64,
+        start: u64,
+        width: u64,
+    },
+    Value {
+        width: u64,
+        value: u64,
+    },
+    Binary {
+        width: u64,
+        value: u64,
+    },
 }
 
-fn plain(function: u8, first: u64, second: u64) -> Call {
-    Call {
-        function,
-        first,
-        second,
-        start: 0,
-        width: 0,
-    }
-}
+// The bytes written, or the refusal.
+type Answer = Result<usize, Refusal>;
 
-fn made(call: Call, buf: &mut [u8]) -> Written {
-    let function = call.function;
-    match function {
-        LISTING => return listing::listing(call.first, buf),
-        RECORD_LINE => return listing::record_line(call.first, call.second as usize, buf),
-        MESSAGE => return written::message(call.first, call.second, call.start, call.width, buf),
-        VALUE => return written::value_string(call.first, call.second, buf),
-        _ => return written::value_binary_string(call.first, call.second, buf),
+fn made(call: Call, buf: &mut [u8]) -> Answer {
+    match call {
+        Call::Listing { esr } => listing::listing(esr, buf),
+        Call::RecordLine { esr, index } => listing::record_line(esr, index, buf),
+        Call::Message {
+            number,
+            carried,
+            start,
+            width,
+        } => written::message(number, carried, start, width, buf),
+        Call::Value { width, value } => written::value_string(width, value, buf),
+        Call::Binary { width, value } => written::value_binary_string(width, value, buf),
     }
-}
-
-// An answer in numbers; that of the refusal is 0 where there is none. The prover is quicker with these than with the reason.
-#[derive(Clone, Copy)]
-struct Told {
-    number: u64,
-    carried: u64,
-    start: u64,
-    width: u64,
-    bytes: usize,
-}
-
-fn in_numbers(written: Written) -> Told {
-    let refusal = written.refusal;
-    Told {
-        number: refusal.number() as u64,
-        carried: refusal.carries,
-        start: refusal.start as u64,
-        width: refusal.width as u64,
-        bytes: written.bytes,
-    }
-}
-
-fn is_told(written: Written, told: Told) -> bool {
-    let found = in_numbers(written);
-    if found.number != told.number {
-        return false;
-    }
-    if found.carried != told.carried {
-        return false;
-    }
-    if found.start != told.start {
-        return false;
-    }
-    if found.width != told.width {
-        return false;
-    }
-    found.bytes == told.bytes
 }
 
 fn room() -> [u8; ROOM]
@@ -113,33 +73,28 @@ fn room() -> [u8; ROOM]
 }
 
 // What a call answers in a buffer of a length, given what it answers in a whole room.
-fn told_in(whole: Told, length: usize) -> Told {
-    if length < whole.bytes {
-        return Told {
-            number: SHORT_BUFFER,
-            carried: whole.bytes as u64,
-            start: 0,
-            width: 0,
-            bytes: 0,
-        };
+fn answer_in(whole: Answer, length: usize) -> Answer {
+    let bytes = whole?;
+    if length < bytes {
+        return Err(Refusal::carrying(Reason::ShortBuffer, bytes as u64));
     }
-    whole
+    Ok(bytes)
 }
 
-// Whether a call in a buffer of a length answered and left what it must, the buffer being the front of an untouched room: what it left of a
-// whole room, or nothing where the text is longer than the buffer. Past a buffer of exactly the text's length nothing is written, so that
-// a room that is left as that one has the text and no other byte.
+// Whether a call in a buffer of a length answered and left what it must, the buffer being the front of an untouched
+// room: what it left of a whole room, or nothing where the text is longer than the buffer. Past a buffer of exactly the
+// text's length nothing is written, so that a room that is left as that one has the text and no other byte.
 fn is_right(
-    written: Written,
+    answer: Answer,
     bytes: &[u8; ROOM],
-    whole: Told,
+    whole: Answer,
     left: &[u8; ROOM],
     length: usize,
 ) -> bool {
-    if !is_told(written, told_in(whole, length)) {
+    if answer != answer_in(whole, length) {
         return false;
     }
-    if length < whole.bytes {
+    if length < whole.unwrap_or(0) {
         return check::same(bytes, &room());
     }
     check::same(bytes, left)
@@ -149,35 +104,35 @@ fn is_right(
 const WRONG: u64 = 1 << 32;
 
 fn counted(tally: u64, right: bool) -> u64 {
-    let next = std::num::wrapping_add_u64(tally, 1);
+    let next = tally.wrapping_add(1);
     if right {
         return next;
     }
-    std::num::wrapping_add_u64(next, WRONG)
+    next.wrapping_add(WRONG)
 }
 
-fn tried(tally: u64, call: Call, whole: Told, left: &[u8; ROOM], length: usize) -> u64 {
+fn tried(tally: u64, call: Call, whole: Answer, left: &[u8; ROOM], length: usize) -> u64 {
     if ROOM < length {
         return counted(tally, false);
     }
     let mut bytes = room();
-    let written = made(call, &mut bytes[0..length]);
-    counted(tally, is_right(written, &bytes, whole, left, length))
+    let answer = made(call, &mut bytes[0..length]);
+    counted(tally, is_right(answer, &bytes, whole, left, length))
 }
 
-fn exact_length(whole: Told) -> usize {
-    if whole.bytes == 0 {
-        return NO_TEXT;
+fn exact_length(whole: Answer) -> usize {
+    match whole {
+        Ok(0) | Err(_) => NO_TEXT,
+        Ok(bytes) => bytes,
     }
-    whole.bytes
 }
 
 // Length 0, one short, exact, one more and much more.
-fn with_lengths(tally: u64, call: Call, whole: Told, left: &[u8; ROOM]) -> u64 {
+fn with_lengths(tally: u64, call: Call, whole: Answer, left: &[u8; ROOM]) -> u64 {
     let exact = exact_length(whole);
-    let short = std::num::wrapping_sub_usize(exact, 1);
-    let over = std::num::wrapping_add_usize(exact, 1);
-    let far_over = std::num::wrapping_add_usize(exact, MORE);
+    let short = exact.wrapping_sub(1);
+    let over = exact.wrapping_add(1);
+    let far_over = exact.wrapping_add(MORE);
     let mut next = tried(tally, call, whole, left, 0);
     next = tried(next, call, whole, left, short);
     next = tried(next, call, whole, left, exact);
@@ -219,29 +174,25 @@ fn say_carried(name: &[u8], number: u64, carried: u64, start: u64, width: u64) {
     say_number(b" width=", width);
 }
 
-// The text, or the refusal, of which there is no text.
-fn say_answer(whole: Told, text: &[u8]) {
-    if whole.number != 0 {
-        say_carried(
-            b"refused ",
-            whole.number,
-            whole.carried,
-            whole.start,
-            whole.width,
-        );
-    }
-    say(text);
+fn say_refusal(refusal: Refusal) {
+    say_carried(
+        b"refused ",
+        refusal.number() as u64,
+        refusal.carries,
+        refusal.start as u64,
+        refusal.width as u64,
+    );
 }
 
-// Says what a call answers, and tries it in the buffers.
+// Says what a call answers, the text or the refusal, and tries it in the buffers.
 fn say_call(tally: u64, call: Call) -> u64 {
     let mut bytes = room();
-    let whole = in_numbers(made(call, &mut bytes));
-    let count = whole.bytes;
-    if ROOM < count {
-        return counted(tally, false);
+    let whole = made(call, &mut bytes);
+    match whole {
+        Ok(count) if ROOM < count => return counted(tally, false),
+        Ok(count) => say(&bytes[0..count]),
+        Err(refusal) => say_refusal(refusal),
     }
-    say_answer(whole, &bytes[0..count]);
     with_lengths(tally, call, whole, &bytes)
 }
 
@@ -253,24 +204,22 @@ fn say_ended(tally: u64, call: Call) -> u64 {
 
 fn say_line(tally: u64, esr: u64, index: usize) -> u64 {
     say_index(index);
-    say_ended(tally, plain(RECORD_LINE, esr, index as u64))
+    say_ended(tally, Call::RecordLine { esr, index })
 }
 
 fn say_lines(tally: u64, esr: u64, count: usize) -> u64 {
     let mut next = tally;
-    let mut index: usize = 0;
-    while index < count {
+    for index in 0..count {
         next = say_line(next, esr, index);
-        index += 1;
     }
     next = say_line(next, esr, count);
     say_line(next, esr, usize::MAX)
 }
 
 fn say_strings(tally: u64, width: u64, value: u64) -> u64 {
-    let next = say_call(tally, plain(VALUE, width, value));
+    let next = say_call(tally, Call::Value { width, value });
     space();
-    say_ended(next, plain(BINARY, width, value))
+    say_ended(next, Call::Binary { width, value })
 }
 
 fn say_item(tally: u64, index: usize, item: Record) -> u64 {
@@ -280,33 +229,31 @@ fn say_item(tally: u64, index: usize, item: Record) -> u64 {
 
 fn say_values(tally: u64, records: Records) -> u64 {
     let mut next = tally;
-    let mut i: usize = 0;
-    while i < records.count {
+    for i in 0..records.count {
         next = say_item(next, i, records.at(i));
-        i += 1;
     }
     next
 }
 
 fn say_message(tally: u64, number: u64, carried: u64, start: u64, width: u64) -> u64 {
-    let asked = Call {
-        function: MESSAGE,
-        first: number,
-        second: carried,
-        start,
-        width,
-    };
-    say_ended(tally, asked)
+    say_ended(
+        tally,
+        Call::Message {
+            number,
+            carried,
+            start,
+            width,
+        },
+    )
 }
 
 fn say_why(tally: u64, refusal: Refusal) -> u64 {
-    let number = refusal.number();
-    if number == 0 {
+    if !refusal.is_refused() {
         return tally;
     }
     say_message(
         tally,
-        number as u64,
+        refusal.number() as u64,
         refusal.carries,
         refusal.start as u64,
         refusal.width as u64,
@@ -323,22 +270,14 @@ fn say_records(tally: u64, esr: u64) -> u64 {
 fn say_value(tally: u64, esr: u64) -> u64 {
     say_hex(b"> 0x", esr);
     end_line();
-    say_records(say_ended(tally, plain(LISTING, esr, 0)), esr)
+    say_records(say_ended(tally, Call::Listing { esr }), esr)
 }
 
 fn say_read(tally: u64, read: Number) -> u64 {
-    let refusal = read.refusal;
-    let number = refusal.number();
-    if number == 0 {
+    if !read.refusal.is_refused() {
         return say_value(tally, read.value);
     }
-    say_carried(
-        b"refused ",
-        number as u64,
-        refusal.carries,
-        refusal.start as u64,
-        refusal.width as u64,
-    );
+    say_refusal(read.refusal);
     end_line();
     tally
 }
@@ -347,6 +286,7 @@ fn say_read(tally: u64, read: Number) -> u64 {
 fn say_given(tally: u64, given: &[u8]) -> u64 {
     let mut next = tally;
     let mut at: usize = 0;
+    // Kept, no plainer: each line gives the next offset.
     while at < given.len() {
         let line = line_reader::take_line(NumberState::start(), given, at);
         next = say_read(next, line.state.finish());
@@ -370,11 +310,11 @@ fn say_numbered(tally: u64, number: u64, carried: u64, start: u64, width: u64) -
 
 // The message of a reserved field of a width: at the top of the value, one bit past it, and with a value that is one too great.
 fn say_named(tally: u64, width: u64, ones: u64) -> u64 {
-    let top = std::num::wrapping_sub_u64(64, width);
-    let past = std::num::wrapping_add_u64(top, 1);
+    let top = 64u64.wrapping_sub(width);
+    let past = top.wrapping_add(1);
     let mut next = say_numbered(tally, 1, ones, top, width);
     next = say_numbered(next, 1, ones, past, width);
-    say_numbered(next, 1, std::num::wrapping_add_u64(ones, 1), 0, width)
+    say_numbered(next, 1, ones.wrapping_add(1), 0, width)
 }
 
 // Each width from 0 to past 64, with 0, the greatest value and one more; the greatest of 64 bits stays where a width is past them.
@@ -384,9 +324,9 @@ fn say_widths(tally: u64) -> u64 {
     for width in 0..67 {
         next = say_field(next, width, 0);
         next = say_field(next, width, ones);
-        next = say_field(next, width, std::num::wrapping_add_u64(ones, 1));
+        next = say_field(next, width, ones.wrapping_add(1));
         next = say_named(next, width, ones);
-        ones = std::num::wrapping_add_u64(std::num::wrapping_add_u64(ones, ones), 1);
+        ones = ones.wrapping_add(ones).wrapping_add(1);
     }
     next
 }

@@ -23,34 +23,31 @@ struct Tally {
 }
 
 fn one_more(count: u64) -> u64 {
-    std::num::wrapping_add_u64(count, 1)
+    count.wrapping_add(1)
 }
 
 fn is_accepted(block: &[u8]) -> bool {
-    let entry = entry::read_entry(block);
-    let refusal = entry.refusal;
-    if refusal.number() != 0 {
-        return false;
+    match entry::read_entry(block) {
+        Ok(entry) => !esr::decode(entry.esr).refusal.is_refused(),
+        Err(_) => false,
     }
-    let answer = esr::decode(entry.esr);
-    let refusal = answer.refusal;
-    refusal.number() == 0
+}
+
+// 0 where the entry is refused.
+fn esr_of(block: &[u8]) -> u64 {
+    match entry::read_entry(block) {
+        Ok(entry) => entry.esr,
+        Err(_) => 0,
+    }
 }
 
 // A copy of an entry whose bytes from one offset to before another were not written.
 fn worn(block: &[u8], from: usize, to: usize) -> [u8; SIZE] {
     let mut copy = [0xFFu8; SIZE];
-    let mut i: usize = 0;
-    while i < SIZE {
-        if i < block.len() {
-            if i < from {
-                copy[i] = block[i];
-            }
-            if to <= i {
-                copy[i] = block[i];
-            }
+    for (i, byte) in copy.iter_mut().enumerate() {
+        if i < block.len() && (i < from || to <= i) {
+            *byte = block[i];
         }
-        i += 1;
     }
     copy
 }
@@ -82,10 +79,8 @@ impl Tally {
         self.changed = one_more(self.changed);
         if is_accepted(torn) {
             if self.accepted == 0 {
-                let before = entry::read_entry(sound);
-                let after = entry::read_entry(torn);
-                self.before = before.esr;
-                self.after = after.esr;
+                self.before = esr_of(sound);
+                self.after = esr_of(torn);
             }
             self.accepted = one_more(self.accepted);
         }
@@ -95,11 +90,8 @@ impl Tally {
     // Each cut from an offset on: what lies from there to before another was not written.
     fn with_cuts(self, block: &[u8], from: usize, to: usize) -> Self {
         let mut tally = self;
-        let mut start = from;
-        while start < to {
-            let torn = worn(block, start, to);
-            tally = tally.with(block, &torn);
-            start += 1;
+        for start in from..to {
+            tally = tally.with(block, &worn(block, start, to));
         }
         tally
     }
@@ -127,23 +119,17 @@ enum Way {
 
 fn with_torn(tally: Tally, way: Way, block: &[u8]) -> Tally {
     match way {
-        Way::Whole => return tally.with_whole(block),
-        Way::EitherWord => return tally.with_words(block),
-        Way::EntryPrefix => return tally.with_cuts(block, 0, SIZE),
-        Way::UpperPrefix => return tally.with_cuts(block, UPPER + 1, LOWER),
+        Way::Whole => tally.with_whole(block),
+        Way::EitherWord => tally.with_words(block),
+        Way::EntryPrefix => tally.with_cuts(block, 0, SIZE),
+        Way::UpperPrefix => tally.with_cuts(block, UPPER + 1, LOWER),
     }
 }
 
 fn counts_of(blocks: &[u8], way: Way) -> Tally {
     let mut counts = Tally::none();
-    let mut at: usize = 0;
-    while at < blocks.len() {
-        if blocks.len() - at < SIZE {
-            return counts;
-        }
-        let end = at + SIZE;
-        counts = with_torn(counts, way, &blocks[at..end]);
-        at = end;
+    for block in blocks.chunks_exact(SIZE) {
+        counts = with_torn(counts, way, block);
     }
     counts
 }

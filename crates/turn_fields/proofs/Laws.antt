@@ -15,11 +15,11 @@ use Rattle.leaf_values.specs.Values.{leaf_row}
 use Rattle.number.specs.Rest.{whole_of}
 use Rattle.number.specs.declared.Number.{Number}
 use Rattle.refusals.specs.Refusals.{passed}
-use borrow.Author.Tests.{eq-eqb, ne_eqb}
 use Rattle.records.specs.declared.Row.{Row}
 use Rattle.tables.specs.Tables.{top_rows}
-use Rattle.turn_fields.specs.Fields.{bit_place, fields_of, means_by, nowhere, one_more, place_of, seek_from, seek_in}
-use Rattle.turn_fields.specs.declared.Place.{Place}
+use Rattle.turn_fields.specs.Fields.{bit_place, count_of, fields_of, means_by, nowhere, one_more, seek_from, seek_in}
+use Rattle.turn_fields.specs.declared.Found.{Found}
+use Rattle.turn_fields.specs.declared.Found.TheVariants.{Nowhere, Once, Several}
 
 module _ (v : ℕ) where
   pub counted : length (leaves_of (layout_number (class_of v)) (iss_of v)) + 3 ≡ length (fields_of v)
@@ -33,7 +33,7 @@ module _ (v : ℕ) where
   own_row (suc (suc zero)) a b d = absurd (d refl)
   own_row (suc (suc (suc i))) a b d = ap (λ (j : ℕ). get_or (leaves_of (layout_number (class_of v)) (iss_of v)) j pad) (omega arith)
 
-module _ (p : Row → Bool) (rows : List Row) (i : ℕ) (found : Place) where
+module _ (p : Row → Bool) (rows : List Row) (i : ℕ) (found : Found) where
   pub seek_done : length rows ≤ i → seek_from p i found (drop i rows) ≡ found
   unfolding seek_from
   seek_done h = rw (drop_of_length-le rows h)
@@ -45,9 +45,11 @@ module _ (p : Row → Bool) (rows : List Row) (i : ℕ) (found : Place) where
       ∙ ap (λ (j : ℕ). seek_from p j (one_more (p (get_or rows i pad)) i found) (drop j rows)) (sym (add-one i))
 
 -- one more counted is still within the rows so far
-pub one-within : (hit : Bool) (i : ℕ) (found : Place) → found.count ≤ i → (one_more hit i found).count ≤ i + 1
-one-within true i found h = omega (arith, h)
+pub one-within : (hit : Bool) (i : ℕ) (found : Found) → count_of found ≤ i → count_of (one_more hit i found) ≤ i + 1
 one-within false i found h = omega (arith, h)
+one-within true i Nowhere h = omega arith
+one-within true i (Once j) h = omega (arith, h)
+one-within true i (Several p) h = omega (arith, h)
 
 pub few_fields : (v : ℕ) → length (fields_of v) ≤ 17
 few_fields v = omega (arith, counted v, few-leaves (layout_number (class_of v)) (iss_of v))
@@ -56,18 +58,14 @@ pub seek_all : (p : Row → Bool) (rows : List Row) → seek_in p rows ≡ seek_
 unfolding seek_in
 seek_all p rows = refl
 
--- What a word means.
+-- What a word means as a number.
 
-module _ (v : ℕ) (word : List ℕ) (so : Place) (is : so ≡ seek_in (means_by true word 0) (fields_of v)) where
-  pub named-so : (so.count ≡ 0 → ⊥) → so ≡ place_of v word
-  unfolding place_of
-  named-so h = rw (← is, ne_eqb so.count 0 h)
+module _ (v : ℕ) (word : List ℕ) (n : Number) (e : n ≡ whole_of word) where
+  pub no_number : passed n.refusal ≡ false → nowhere ≡ bit_place v word (whole_of word)
+  unfolding bit_place
+  no_number h = rw (← e, h)
 
-  module _ (none : so.count ≡ 0) (n : Number) (e : n ≡ whole_of word) where
-    pub no_number : passed n.refusal ≡ false → nowhere ≡ place_of v word
-    unfolding place_of bit_place
-    no_number h = rw (← is, eq-eqb so.count 0 none, ← e, h)
-
-    pub at-bit : passed n.refusal ≡ true → {r : Place} → r ≡ seek_in (means_by false word n.value) (fields_of v) → r ≡ place_of v word
-    unfolding place_of bit_place
-    at-bit h f = f ∙ rw (← is, eq-eqb so.count 0 none, ← e, h)
+  pub at-bit : passed n.refusal ≡ true → {r : Found} → r ≡ seek_in (means_by false word n.value) (fields_of v)
+      → r ≡ bit_place v word (whole_of word)
+  unfolding bit_place
+  at-bit h f = f ∙ rw (← e, h)

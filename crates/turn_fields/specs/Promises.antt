@@ -3,7 +3,7 @@ use Rattle.std.specs.Prelude.{ℕ, List, ◌≡◌, length, get_or}
 use Rattle.layouts.specs.Layouts.{pad}
 use Rattle.records.specs.declared.Row.{Row}
 use Rattle.turn_fields.specs.Fields.{fields_of, place_of}
-use Rattle.turn_fields.specs.declared.Place.{Place}
+use Rattle.turn_fields.specs.declared.Found.{Found}
 
 abbrev pub FieldCount : ℕ → ℕ → Type 0
 FieldCount esr r = r ≡ length (fields_of esr)
@@ -12,5 +12,5 @@ FieldCount esr r = r ≡ length (fields_of esr)
 abbrev pub FieldRow : ℕ × ℕ → Row → Type 0
 FieldRow (esr, index) r = r ≡ get_or (fields_of esr) index pad
 
-abbrev pub Find : ℕ × List ℕ → Place → Type 0
+abbrev pub Find : ℕ × List ℕ → Found → Type 0
 Find (esr, word) r = r ≡ place_of esr word

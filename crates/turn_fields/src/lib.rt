@@ -1,11 +1,13 @@
-// The fields of a value that can be set, and which of them a word means: by its name, or by the number of its lowest bit (#114).
+// The fields of a value that can be set, and which of them a word means: by its name, or by the number of its lowest bit
+// (#114).
 #![tactic(auto)]
 
 ghost use Rattle.std.specs.Prelude.{◌≤◌, ◌≡◌};
 ghost use Rattle.buffer.specs.Lent.{part_in};
 ghost use Rattle.texts.specs.Pool.{bytes_at};
-ghost use Rattle.turn_fields.specs.Fields.{fields_of, means_by, one_more, seek_in};
+ghost use Rattle.turn_fields.specs.Fields.{bit_place, count_of, fields_of, means_by, one_more, seek_in};
 ghost use Rattle.turn_fields.specs.Promises.{FieldCount, FieldRow, Find};
+ghost use Rattle.number.specs.Rest.{whole_of};
 ghost use Rattle.words.specs.Words.{same};
 
 use engine::top;
@@ -15,13 +17,20 @@ use records::Row;
 const ABOVE: usize = 3;
 
 // How many fields are meant, and the index of the last of them.
-#[derive(Clone, Copy)]
+// Kept beside `Several`: `Find` says both, and the edit `turn_last_of_several` is of them.
+#[derive(Clone, Copy, PartialEq, Eq)]
 pub struct Place {
     pub count: usize,
     pub index: usize,
 }
 
-const NOWHERE: Place = Place { count: 0, index: 0 };
+// No field is meant, the one of an index, or more than one.
+#[derive(Clone, Copy, PartialEq, Eq)]
+pub enum Found {
+    Nowhere,
+    Once(usize),
+    Several(Place),
+}
 
 pub fn field_count(esr: u64) -> usize
     ensures { FieldCount esr result }
@@ -34,17 +43,15 @@ pub fn field_count(esr: u64) -> usize
 pub fn field_row(esr: u64, index: usize) -> Row
     ensures { FieldRow (esr, index) result }
 {
-    if index == 0 {
-        return top::ISS2;
+    match index {
+        0 => top::ISS2,
+        1 => top::EC,
+        2 => top::IL,
+        _ => {
+            let number = esr::layout_number(records::field(esr, 26, 6));
+            leaf_values::leaf_row(number, records::field(esr, 0, 25), index - ABOVE)
+        }
     }
-    if index == 1 {
-        return top::EC;
-    }
-    if index == 2 {
-        return top::IL;
-    }
-    let number = esr::layout_number(records::field(esr, 26, 6));
-    leaf_values::leaf_row(number, records::field(esr, 0, 25), index - ABOVE)
 }
 
 // Whether a word is the text of a code in a pool.
@@ -82,44 +89,51 @@ fn means(row: Row, named: bool, word: &[u8], bit: u64) -> bool
 }
 
 // One more is meant, or not.
-fn and_one(found: Place, hit: bool, index: usize) -> Place
-    requires { found.count ≤ 64 }
+fn and_one(found: Found, hit: bool, index: usize) -> Found
+    requires { count_of found ≤ 64 }
     ensures { result ≡ one_more hit index found }
 {
-    if hit {
-        return Place {
-            count: found.count + 1,
+    if !hit {
+        return found;
+    }
+    match found {
+        Found::Nowhere => Found::Once(index),
+        Found::Once(_) => Found::Several(Place { count: 2, index }),
+        Found::Several(place) => Found::Several(Place {
+            count: place.count + 1,
             index,
-        };
+        }),
+    }
+}
+
+fn seek(esr: u64, named: bool, word: &[u8], bit: u64) -> Found
+    ensures { result ≡ seek_in (means_by named word.now bit) (fields_of esr) }
+{
+    let mut found = Found::Nowhere;
+    for i in 0..field_count(esr) {
+        found = and_one(found, means(field_row(esr, i), named, word, bit), i);
     }
     found
 }
 
-fn seek(esr: u64, named: bool, word: &[u8], bit: u64) -> Place
-    ensures { result ≡ seek_in (means_by named word.now bit) (fields_of esr) }
+// What a word means as a number.
+fn by_bit(esr: u64, word: &[u8]) -> Found
+    ensures { result ≡ bit_place esr word.now (whole_of word.now) }
 {
-    let all = field_count(esr);
-    let mut found = NOWHERE;
-    let mut i: usize = 0;
-    while i < all {
-        found = and_one(found, means(field_row(esr, i), named, word, bit), i);
-        i += 1;
+    let number = number::parse_number(word);
+    let refusal = number.refusal;
+    if refusal.is_refused() {
+        return Found::Nowhere;
     }
-    found
+    seek(esr, false, word, number.value)
 }
 
 // A name goes before a number.
-pub fn find(esr: u64, word: &[u8]) -> Place
+pub fn find(esr: u64, word: &[u8]) -> Found
     ensures { Find (esr, word.now) result }
 {
-    let so = seek(esr, true, word, 0);
-    if so.count != 0 {
-        return so;
+    match seek(esr, true, word, 0) {
+        Found::Nowhere => by_bit(esr, word),
+        found => found,
     }
-    let number = number::parse_number(word);
-    let refusal = number.refusal;
-    if refusal.number() != 0 {
-        return NOWHERE;
-    }
-    seek(esr, false, word, number.value)
 }

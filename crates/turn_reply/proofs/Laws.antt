@@ -7,17 +7,15 @@ use native.Mathlib.Nat.{le_of_suc-le-suc, not-suc-le-zero}
 use native.Mathlib.Omega.{arith}
 use lib.ListN.{length, get_or, take, drop, set, length-map, length-set, get_or-map}
 use lib.Seq.{sets, sets-eq, get_or-set_same, get_or-set_other, take-append_seam, length-sets}
-use borrow.Author.Tests.{eq-eqb, ne_eqb}
 use Rattle.esr.specs.Decode.{answer_of}
 use Rattle.make_reply.specs.Promises as make
 use Rattle.layouts.specs.Layouts.{pad}
 use Rattle.records.specs.Rows.{value_in}
 use Rattle.refusals.specs.Refusals.{passed}
 use Rattle.reply_lines.specs.Lines.{refusal_line}
-use Rattle.texts.specs.Pool.{bytes}
 use Rattle.turn_fields.proofs.Laws.{counted, few_fields}
 use Rattle.turn_fields.specs.Fields.{fields_of, place_of}
-use Rattle.turn_fields.specs.declared.Place.{Place}
+use Rattle.turn_fields.specs.declared.Found.{Found}
 use Rattle.turn_reply.specs.Turns.{Said, Turn, told, made, made_of, turn_at, turn_of, turned}
 
 -- within a list the default is not asked
@@ -84,16 +82,6 @@ module _ (v : ℕ) (word : List ℕ) (number : ℕ) where
   unfolding turn_of
   turn-refused e = rw e
 
-  module _ (sound : passed (answer_of v).refusal ≡ true) {p : Place} (is : p ≡ place_of v word) where
-    pub turn-none : p.count ≡ 0 → told (bytes "refused: no field of this value is named so\n") ≡ turn_of v word number
-    unfolding turn_of turn_at
-    turn-none h = rw (sound, ← is, eq-eqb p.count 0 h)
-
-    module _ (some : p.count ≡ 0 → ⊥) where
-      pub turn_several : (p.count ≡ 1 → ⊥) → told (bytes "refused: several fields are named so; give the lowest bit of one\n") ≡ turn_of v word number
-      unfolding turn_of turn_at
-      turn_several h = rw (sound, ← is, ne_eqb p.count 0 some, ne_eqb p.count 1 h)
-
-      pub turn_one : p.count ≡ 1 → made_of (turned v p.index number) ≡ turn_of v word number
-      unfolding turn_of turn_at
-      turn_one h = rw (sound, ← is, ne_eqb p.count 0 some, eq-eqb p.count 1 h)
+  pub turn-found : passed (answer_of v).refusal ≡ true → {p : Found} → p ≡ place_of v word → turn_at v p number ≡ turn_of v word number
+  unfolding turn_of
+  turn-found sound is = rw (sound, ← is)

@@ -1,5 +1,5 @@
 -- `esr turn`: what is said of a value, a field and a number (#114).
-use Rattle.std.specs.Prelude.{ℕ, cond, List, [], ◌∷◌, map, eqb, set}
+use Rattle.std.specs.Prelude.{ℕ, cond, List, [], ◌∷◌, map, set}
 use Rattle.buffer.specs.Appending.{Appends}
 use Rattle.esr.specs.Decode.{answer_of}
 use Rattle.make_reply.specs.Promises as make
@@ -8,7 +8,8 @@ use Rattle.refusals.specs.Refusals.{passed}
 use Rattle.reply_lines.specs.Lines.{number_line, refusal_line}
 use Rattle.texts.specs.Pool.{bytes}
 use Rattle.turn_fields.specs.Fields.{fields_of, place_of}
-use Rattle.turn_fields.specs.declared.Place.{Place}
+use Rattle.turn_fields.specs.declared.Found.{Found}
+use Rattle.turn_fields.specs.declared.Found.TheVariants.{Nowhere, Once, Several}
 
 -- what the fields hold, ISS2, the class, IL and the leaves of ISS, with one of them set; the others are as they are
 unfoldable pub turned : ℕ → ℕ → ℕ → List ℕ
@@ -27,11 +28,10 @@ made_of (iss2 ∷ class ∷ []) = told []
 made_of (iss2 ∷ class ∷ il ∷ leaves) = made class il iss2 leaves
 
 -- no such field, several with that name (DECISIONS 110); or the one is set
-unfoldable pub turn_at : ℕ → Place → ℕ → Turn
-turn_at v p number =
-    cond (eqb p.count 0) (told (bytes "refused: no field of this value is named so\n"))
-    (cond (eqb p.count 1) (made_of (turned v p.index number))
-    (told (bytes "refused: several fields are named so; give the lowest bit of one\n")))
+unfoldable pub turn_at : ℕ → Found → ℕ → Turn
+turn_at v Nowhere number = told (bytes "refused: no field of this value is named so\n")
+turn_at v (Once index) number = made_of (turned v index number)
+turn_at v (Several p) number = told (bytes "refused: several fields are named so; give the lowest bit of one\n")
 
 -- a value that is refused is answered by its refusal line
 unfoldable pub turn_of : ℕ → List ℕ → ℕ → Turn

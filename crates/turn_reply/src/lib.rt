@@ -1,4 +1,5 @@
-// What `esr turn` says, byte for byte, in a lent buffer from an offset on: the value with one leaf set, by the maker, or why there is none (#114).
+// What `esr turn` says, byte for byte, in a lent buffer from an offset on: the value with one leaf set, by the maker, or why
+// there is none (#114).
 #![tactic(auto)]
 
 ghost use Rattle.std.specs.Prelude.{◌<◌, length, get_or, ◌≡◌};
@@ -10,15 +11,10 @@ use buffer::put_bytes;
 use digits::Base;
 use make_reply::put_make_reply;
 use reply_lines::{put_number_line, put_refusal};
+use turn_fields::Found;
 
 // No value has more fields that can be set.
 const ROOM: usize = 17;
-
-fn places() -> [u64; ROOM]
-    ensures { 17 ≡ length result }
-{
-    [0; ROOM]
-}
 
 // What a field holds after one is set.
 fn value_at(esr: u64, index: usize, number: u64, i: usize) -> u64
@@ -38,10 +34,8 @@ fn hold(esr: u64, index: usize, number: u64, numbers: &mut [u64]) -> usize
     ensures { (result ≡ length (turned esr index number)) × (numbers.new ≡ sets numbers.old 0 (turned esr index number)) }
 {
     let count = turn_fields::field_count(esr);
-    let mut i: usize = 0;
-    while i < count {
+    for i in 0..count {
         numbers[i] = value_at(esr, index, number, i);
-        i += 1;
     }
     count
 }
@@ -49,7 +43,7 @@ fn hold(esr: u64, index: usize, number: u64, numbers: &mut [u64]) -> usize
 fn put_turned(buf: &mut [u8], at: usize, esr: u64, index: usize, number: u64) -> usize
     ensures { Said (made_of (turned esr index number)) (at, buf.old) (result, buf.new) }
 {
-    let mut numbers = places();
+    let mut numbers = [0; ROOM];
     let count = hold(esr, index, number, &mut numbers);
     put_make_reply(
         buf,
@@ -66,21 +60,18 @@ pub fn put_turn_reply(buf: &mut [u8], at: usize, esr: u64, field: &[u8], number:
 {
     let answer = esr::decode(esr);
     let refusal = answer.refusal;
-    if refusal.number() != 0 {
+    if refusal.is_refused() {
         return put_refusal(buf, at, refusal);
     }
-    let place = turn_fields::find(esr, field);
-    if place.count == 0 {
-        return put_bytes(buf, at, b"refused: no field of this value is named so\n");
-    }
-    if place.count != 1 {
-        return put_bytes(
+    match turn_fields::find(esr, field) {
+        Found::Nowhere => put_bytes(buf, at, b"refused: no field of this value is named so\n"),
+        Found::Once(index) => put_turned(buf, at, esr, index, number),
+        Found::Several(_) => put_bytes(
             buf,
             at,
             b"refused: several fields are named so; give the lowest bit of one\n",
-        );
+        ),
     }
-    put_turned(buf, at, esr, place.index, number)
 }
 
 // Another count of numbers than two.

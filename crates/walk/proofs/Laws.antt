@@ -1,20 +1,23 @@
--- Laws of the walk's definitions, which the functions' proofs cite: where an entry is sound the walk goes on, 13 bytes later, and elsewhere it
--- ends. The entry reader refuses all that the walk ends at, so that what the code asks of it decides.
-use Rattle.std.proofs.Common.{◌≡◌, ℕ, zero, suc, ◌+◌, ◌-◌, ◌*◌, ◌%◌, ◌^◌, ◌<◌, ◌≤◌, Bool, true, false, cond, ◌||◌, eqb, ltb, List, [], ◌∷◌, ◌++◌, length, get_or, take, drop, set, sym, refl, ap, ◌∙◌, append_assoc, append-nil, add-one, arith, eqb→eq, length-append, length-drop, take-append-drop, length-take-le, take_all, drop-drop, take-suc-set, drop-set-lt, le-ltb, lt-ltb, eq-eqb, ne_eqb, eqb-true}
-use mathlib.Core.Bool.{and-false}
+-- Laws of the walk's definitions, which the functions' proofs cite: where an entry is sound the walk goes on, 13 bytes
+-- later, and elsewhere it ends. The entry reader refuses all that the walk ends at, so that what the code asks of it
+-- decides.
+use Rattle.std.proofs.Common.{◌≡◌, ℕ, zero, suc, ◌+◌, ◌-◌, ◌*◌, ◌%◌, ◌^◌, ◌<◌, ◌≤◌, Bool, true, false, cond, ◌||◌, eqb, ltb, List, [], ◌∷◌, ◌++◌, length, take, drop, set, sym, refl, ap, ◌∙◌, append_assoc, append-nil, add-one, arith, eqb→eq, length-append, length-drop, take-append-drop, length-take-le, take_all, drop-drop, take-suc-set, drop-set-lt, le-ltb, lt-ltb, eq-eqb, ne_eqb, eqb-true}
+use mathlib.Core.Bool.{true≢false}
 use lib.ListN.{length-map}
 use borrow.Author.Tests.{eqb-false}
+use Rattle.std.specs.Prelude.{Option, None, Result, Ok, Err}
+use Rattle.std.specs.Result.{is_ok, result_err}
 use Rattle.entry.proofs.Laws.{facts}
-use Rattle.entry.proofs.Theorems.{refusal_is}
+use Rattle.entry.proofs.Theorems.{read-free, read-bad, numbers_are}
 use Rattle.entry.specs.BigEndian.{bytes_after}
-use Rattle.entry.specs.Entries.{length_in, judged, sound, entry_of}
+use Rattle.entry.specs.Entries.{length_in, sequence_in, esr_in, numbers_in, judged, sound, entry_of}
 use Rattle.entry.specs.declared.Entry.{Entry}
 use Rattle.promise.proofs.Tests.{both_left, both_right, is_true}
-use Rattle.refusals.specs.Refusals.{bare, carrying, no_refusal, passed, reason_number, refusal_number}
+use Rattle.refusals.specs.Refusals.{bare, carrying, passed, reason_number}
 use Rattle.refusals.specs.declared.Reason.TheVariants.{LongBlock, ShortBuffer}
 use Rattle.refusals.specs.declared.Refusal.{Refusal}
 use Rattle.strict.specs.declared.Profile.{Profile}
-use Rattle.walk.specs.Walks.{erased, over, ends, entries_within, entries_of, end_refusal, decodes, decoded_in, skipped, steps_after, steps_of, sequences, steps_in, walk_refusal, walked, refusing, walking}
+use Rattle.walk.specs.Walks.{erased, over, ends, entries_within, entries_of, end_refusal, decodes, decoded_in, skipped, steps_after, steps_of, sequences, steps_in, walk_refusal, walked, walking}
 use Rattle.walk.specs.declared.Walked.{Walked}
 
 -- Where the walk ends.
@@ -80,20 +83,20 @@ within-enough (suc m) (suc n) s p q =
     by-sound s
     (λ free.
     rw (sound-goes_on s free)
-    (ap (λ (es : List Entry). entry_of s ∷ es) (within-enough m n (drop 13 s) (short_tail s m p free) (short_tail s n q free))))
+    (ap (λ (es : List Entry). numbers_in s ∷ es) (within-enough m n (drop 13 s) (short_tail s m p free) (short_tail s n q free))))
     (λ bad. within_none (suc m) s bad ∙ sym (within_none (suc n) s bad))
 
 pub entries_none : (s : List ℕ) → (reason_number (judged s) ≡ 0 → ⊥) → entries_of s ≡ []
 unfolding entries_of
 entries_none s bad = within_none (length s) s bad
 
-pub entries_more : (s : List ℕ) → reason_number (judged s) ≡ 0 → entries_of s ≡ entry_of s ∷ entries_of (drop 13 s)
+pub entries_more : (s : List ℕ) → reason_number (judged s) ≡ 0 → entries_of s ≡ numbers_in s ∷ entries_of (drop 13 s)
 unfolding entries_of entries_within
 entries_more s free =
     let l = sound-long s free in
     let d = length-drop 13 s in
     within-enough (length s) (suc (length s)) s (omega arith) (omega arith)
-    ∙ rw (sound-goes_on s free) (ap (λ (es : List Entry). entry_of s ∷ es) (within-enough (length s) (length (drop 13 s)) (drop 13 s) (omega arith) (omega arith)))
+    ∙ rw (sound-goes_on s free) (ap (λ (es : List Entry). numbers_in s ∷ es) (within-enough (length s) (length (drop 13 s)) (drop 13 s) (omega arith) (omega arith)))
 
 pub entries_end : (s : List ℕ) (at : ℕ) → length s ≤ at → entries_of (drop at s) ≡ []
 entries_end s at h =
@@ -110,29 +113,28 @@ fit (suc n) s h =
 pub entries_fit : (s : List ℕ) → 13 * length (entries_of s) ≤ length s
 entries_fit s = fit (length s) s (omega arith)
 
--- What the code reads at a place, and the number that it tests.
+-- What the code reads at a place.
 
 pub rest : (s : List ℕ) (at : ℕ) → take (length s - at) (drop at s) ≡ drop at s
 rest s at = take_all (length s - at) (drop at s) (omega (arith, length-drop at s))
 
-pub judged-by : {r : Entry} {n : ℕ} (t : List ℕ) → r ≡ entry_of t → n ≡ refusal_number r.refusal → n ≡ reason_number (judged t)
-judged-by t e is = is ∙ ap (λ (x : Entry). refusal_number x.refusal) e ∙ ap refusal_number (refusal_is t)
+-- at a place within a block: the answer says whether the entry there is sound, and one that is has its 13 bytes
+module _ (s : List ℕ) (at : ℕ) {r : Result Entry Refusal} (read : r ≡ entry_of (take (length s - at) (drop at s))) where
+  read_at : r ≡ entry_of (drop at s)
+  read_at = read ∙ ap entry_of (rest s at)
 
--- at a place within a block: the test says whether the entry there is sound, and one that is has its 13 bytes
-module _ (s : List ℕ) (at : ℕ) {e : Entry} {n : ℕ} (read : e ≡ entry_of (take (length s - at) (drop at s)))
-    (tested : n ≡ refusal_number e.refusal)
-  where
-    judged_at : n ≡ reason_number (judged (drop at s))
-    judged_at = judged-by (drop at s) (read ∙ ap entry_of (rest s at)) tested
+  pub bad_at : {f : Refusal} → r ≡ Err f → entries_of (drop at s) ≡ []
+  bad_at e = entries_none (drop at s) (read-bad (drop at s) (sym read_at ∙ e))
 
-    pub bad_at : (n ≡ 0 → ⊥) → entries_of (drop at s) ≡ []
-    bad_at h = entries_none (drop at s) (λ z. h (judged_at ∙ z))
+  module _ {e : Entry} (is : r ≡ Ok e) where
+    pub sound_at : reason_number (judged (drop at s)) ≡ 0
+    sound_at = read-free (drop at s) (sym read_at ∙ is)
 
-    pub sound_at : n ≡ 0 → reason_number (judged (drop at s)) ≡ 0
-    sound_at h = sym judged_at ∙ h
+    pub numbers_at : e ≡ numbers_in (drop at s)
+    numbers_at = numbers_are (drop at s) (sym read_at ∙ is)
 
-    pub long_at : at ≤ length s → n ≡ 0 → at + 13 ≤ length s
-    long_at within h = omega (arith, within, sound-long (drop at s) (sound_at h), length-drop at s)
+    pub long_at : at ≤ length s → at + 13 ≤ length s
+    long_at within = omega (arith, within, sound-long (drop at s) sound_at, length-drop at s)
 
 -- Counts: of those so far and of those that are left.
 
@@ -144,7 +146,7 @@ module _ (m k : ℕ) (t : List ℕ) (all : m ≡ k + length (entries_of t)) wher
   count-done e = let g = rw e at all in omega arith
 
 module _ (profile : Profile) (m k : ℕ) (t : List ℕ) (all : m ≡ k + decoded_in profile (entries_of t)) where
-  pub decoded-more : (d : ℕ) → reason_number (judged t) ≡ 0 → d ≡ cond (decodes profile (entry_of t).esr) 1 0 → m ≡ (k + d) + decoded_in profile (entries_of (drop 13 t))
+  pub decoded-more : (d : ℕ) → reason_number (judged t) ≡ 0 → d ≡ cond (decodes profile (esr_in t)) 1 0 → m ≡ (k + d) + decoded_in profile (entries_of (drop 13 t))
   unfolding decoded_in
   decoded-more d free e = let g = rw (entries_more t free, ← e) at all in omega arith
 
@@ -158,7 +160,7 @@ at_most_one false = omega arith
 
 -- Steps: g is all of them, k of them stand in the run, and the rest follows the number `last`.
 
-pub steps_first : (s : List ℕ) → reason_number (judged s) ≡ 0 → steps_in s ≡ steps_after (entry_of s).sequence (sequences (entries_of (drop 13 s)))
+pub steps_first : (s : List ℕ) → reason_number (judged s) ≡ 0 → steps_in s ≡ steps_after (sequence_in s) (sequences (entries_of (drop 13 s)))
 unfolding steps_of
 steps_first s free = rw (entries_more s free)
 
@@ -168,7 +170,7 @@ steps_none s run bad = rw (entries_none s bad)
 
 module _ (g run : List ℕ) (k last : ℕ) (t : List ℕ) (inside : k ≤ length run) (all : g ≡ take k run ++ steps_after last (sequences (entries_of t))) where
   module _ (free : reason_number (judged t) ≡ 0) where
-    steps_cons : g ≡ take k run ++ (skipped last (entry_of t).sequence ∷ steps_after (entry_of t).sequence (sequences (entries_of (drop 13 t))))
+    steps_cons : g ≡ take k run ++ (skipped last (sequence_in t) ∷ steps_after (sequence_in t) (sequences (entries_of (drop 13 t))))
     unfolding steps_after
     steps_cons = all ∙ rw (entries_more t free)
 
@@ -177,7 +179,7 @@ module _ (g run : List ℕ) (k last : ℕ) (t : List ℕ) (inside : k ≤ length
         let e = simp length-append at (ap length steps_cons) in
         omega (arith, length-take-le k run inside)
 
-    pub steps_more : (e : Entry) (v : ℕ) → e ≡ entry_of t → v ≡ skipped last e.sequence → k < length run
+    pub steps_more : (e : Entry) (v : ℕ) → e ≡ numbers_in t → v ≡ skipped last e.sequence → k < length run
         → g ≡ take (k + 1) (set run k v) ++ steps_after e.sequence (sequences (entries_of (drop 13 t)))
     steps_more e v he hv h =
         let w : take (k + 1) (set run k v) ≡ take k run ++ (v ∷ []) = rw add-one (take-suc-set run k v h) in
@@ -221,67 +223,78 @@ module _ (last next : ℕ) (small : last < 65536) (below : next < 65536) where
 
 -- The whole answer, from the tests that lead to it.
 
-pub walk_long : (profile : Profile) (s before : List ℕ) → 65536 < length s → walking profile s before ≡ (refusing (bare LongBlock), before)
+pub walk_long : (profile : Profile) (s before : List ℕ) → 65536 < length s → walking profile s before ≡ (Err (bare LongBlock), before)
 unfolding walking walk_refusal
 walk_long profile s before h = rw (lt-ltb 65536 (length s) h)
 
 module _ (profile : Profile) (s before : List ℕ) (n : ℕ) (within : length s ≤ 65536) (needed : n ≡ length (steps_in s)) where
-  pub walk_short : length before < n → walking profile s before ≡ (refusing (carrying ShortBuffer n), before)
+  pub walk_short : length before < n → walking profile s before ≡ (Err (carrying ShortBuffer n), before)
   unfolding walking walk_refusal
   walk_short h = rw (le-ltb 65536 (length s) within, ← needed, lt-ltb (length before) n h)
 
-  pub walk_whole : n ≤ length before → walking profile s before ≡ (walked profile s, steps_in s ++ drop (length (steps_in s)) before)
+  pub walk_whole : n ≤ length before → walking profile s before
+      ≡ (Ok (walked profile s), steps_in s ++ drop (length (steps_in s)) before)
   unfolding walking walk_refusal
   walk_whole h =
       let room : ltb (length before) (length (steps_in s)) ≡ false = le-ltb (length before) (length (steps_in s)) (omega arith) in
       rw (le-ltb 65536 (length s) within, room)
 
--- a walk that is refused says so by the refusal of the definition, and one that is not is walked whole
-pub refusal-told : (profile : Profile) (s before : List ℕ) → (walking profile s before).0.refusal ≡ walk_refusal s (length before)
-unfolding walking walked walk_refusal
-refusal-told profile s before = by (ltb 65536 (length s)) (ltb (length before) (length (steps_in s)))
+abbrev ok_or : {T E : Type 0} → T → Result T E → T
+ok_or x (Ok y) = y
+ok_or x (Err e) = x
+
+abbrev err_or : {T E : Type 0} → E → Result T E → E
+err_or e (Ok y) = e
+err_or e (Err f) = f
+
+-- an answer that is a refusal is that of the definition, and one that is none is of the whole walk
+module _ (profile : Profile) (s before after : List ℕ) {r : Result Walked Refusal}
+    (is : (r, after) ≡ walking profile s before)
   where
-    refusal_by : Bool → Bool → Refusal
-    refusal_by long short = cond long (bare LongBlock) (cond short (carrying ShortBuffer (length (steps_in s))) no_refusal)
+    abbrev refusal : Refusal
+    refusal = walk_refusal s (length before)
 
-    answer_by : Refusal → Walked
-    answer_by f = (cond {A = Walked × List ℕ} (passed f) (walked profile s, steps_in s ++ drop (length (steps_in s)) before) (refusing f, before)).0
+    abbrev whole : Result Walked Refusal × List ℕ
+    whole = (Ok (walked profile s), steps_in s ++ drop (length (steps_in s)) before)
 
-    by : (long short : Bool) → (answer_by (refusal_by long short)).refusal ≡ refusal_by long short
-    by true short = refl
-    by false true = refl
-    by false false = refl
+    abbrev Told : Bool → Type 0
+    Told p = (passed refusal ≡ p) × ((r, after) ≡ cond p whole (Err refusal, before))
 
-pub walk_passed : (profile : Profile) (s before : List ℕ) → passed (walk_refusal s (length before)) ≡ true
-    → walking profile s before ≡ (walked profile s, steps_in s ++ drop (length (steps_in s)) before)
-unfolding walking
-walk_passed profile s before h = rw h
+    by_told : {P : Type 0} → (Told true → P) → (Told false → P) → P
+    unfolding walking
+    by_told {P} go stop = by (passed refusal) refl is
+      where
+        by : (p : Bool) → passed refusal ≡ p → (r, after) ≡ cond p whole (Err refusal, before) → P
+        by true h i = go (h, i)
+        by false h i = stop (h, i)
+
+    pub refusal-told : {f : Refusal} → r ≡ Err f → (f ≡ refusal) × (passed refusal ≡ false)
+    refusal-told e =
+        by_told (λ t. absurd (true≢false (sym (ap (λ (o : Result Walked Refusal × List ℕ). is_ok o.0) t.1) ∙ ap is_ok e)))
+        (λ t. (ap (err_or refusal) (sym e ∙ ap (λ (o : Result Walked Refusal × List ℕ). o.0) t.1), t.0))
+
+    pub walk_passed : {w : Walked} → r ≡ Ok w
+        → (passed refusal ≡ true) × (w ≡ walked profile s) × (after ≡ steps_in s ++ drop (length (steps_in s)) before)
+    walk_passed e =
+        by_told
+        (λ t. (
+          t.0,
+          ap (ok_or (walked profile s)) (sym e ∙ ap (λ (o : Result Walked Refusal × List ℕ). o.0) t.1),
+          ap (λ (o : Result Walked Refusal × List ℕ). o.1) t.1,
+        ))
+        (λ t. absurd (true≢false (sym (ap is_ok e) ∙ ap (λ (o : Result Walked Refusal × List ℕ). is_ok o.0) t.1)))
 
 -- what stands at the end
-pub over-short : (s : List ℕ) → length s < 2 → eqb (length s) 0 ≡ over s
-over-short [] h = refl
-over-short (a ∷ []) h = sym (and-false (eqb a 0xFF))
-over-short (a ∷ b ∷ s) h = absurd (omega arith)
-
-module _ (s : List ℕ) (two : 2 ≤ length s) where
-  not_empty : eqb (length s) 0 ≡ false
-  not_empty = ne_eqb (length s) 0 (λ z. omega arith)
-
-  pub over_first : (get_or s 0 0 ≡ 0xFF → ⊥) → eqb (get_or s 0 0) 0xFF ≡ over s
-  over_first h = rw (not_empty, ne_eqb (get_or s 0 0) 0xFF h)
-
-  pub over-second : get_or s 0 0 ≡ 0xFF → eqb (get_or s 1 0) 0xFF ≡ over s
-  over-second h = rw (not_empty, eq-eqb (get_or s 0 0) 0xFF h)
-
-pub end-over : (t : List ℕ) → over t ≡ true → end_refusal t ≡ no_refusal
+pub end-over : (t : List ℕ) → over t ≡ true → end_refusal t ≡ None
 unfolding end_refusal
 end-over t h = rw h
 
-pub end_bad : (t : List ℕ) → over t ≡ false → end_refusal t ≡ (entry_of t).refusal
+pub end_bad : (t : List ℕ) → over t ≡ false → end_refusal t ≡ result_err (entry_of t)
 unfolding end_refusal
 end_bad t h = rw h
 
-pub walked-is : (profile : Profile) (s t : List ℕ) (n d : ℕ) (f : Refusal) → n ≡ length (entries_of s) → d ≡ decoded_in profile (entries_of s) → t ≡ drop (13 * n) s → f ≡ end_refusal t
-    → record { entries = n; decoded = d; offset = 13 * n; ended = f; refusal = no_refusal } ≡ walked profile s
+pub walked-is : (profile : Profile) (s t : List ℕ) (n d : ℕ) (f : Option Refusal) → n ≡ length (entries_of s)
+    → d ≡ decoded_in profile (entries_of s) → t ≡ drop (13 * n) s → f ≡ end_refusal t
+    → record { entries = n; decoded = d; offset = 13 * n; ended = f } ≡ walked profile s
 unfolding walked
 walked-is profile s t n d f en ed et ef = rw (ef, et, ed, en)

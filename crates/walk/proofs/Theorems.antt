@@ -2,12 +2,16 @@
 -- after another the steps say how many are lost, and where.
 use Rattle.std.proofs.Common.{◌≡◌, ℕ, zero, suc, ◌+◌, ◌*◌, ◌%◌, ◌^◌, ◌<◌, ◌≤◌, true, List, [], ◌∷◌, ◌++◌, map, length, get_or, drop, replicate, sym, refl, ap, ◌∙◌, ap₂, append_assoc, append-nil, arith, length-append, length-drop, drop-drop, eq-eqb, ne_eqb}
 use lib.ListN.{length-replicate}
-use Rattle.entry.proofs.Laws.{judged-short, judged_version, judged-long}
-use Rattle.entry.proofs.Theorems.{refusal_is, written-is-read}
+use mathlib.Core.Bool.{true≢false}
+use Rattle.std.specs.Prelude.{None, Result, Ok}
+use Rattle.std.specs.Result.{is_ok}
+use Rattle.entry.proofs.Laws.{judged-short, judged_version, judged-long, entry-sound, entry-refused}
+use Rattle.entry.proofs.Theorems.{read-free, numbers_are, written-is-read}
 use Rattle.entry.specs.BigEndian.{written}
 use Rattle.entry.specs.Entries.{judged, entry_of, entry_bytes}
 use Rattle.entry.specs.declared.Entry.{Entry}
-use Rattle.refusals.specs.Refusals.{no_refusal, reason_number, refusal_number}
+use Rattle.refusals.specs.Refusals.{reason_number}
+use Rattle.refusals.specs.declared.Refusal.{Refusal}
 use Rattle.refusals.specs.declared.Reason.TheVariants.{ShortEntry, BadLength, BadVersion}
 use Rattle.walk.proofs.Laws.{by-sound, sound-long, erased-length, entries_none, entries_more, entries_end, entries_fit, steps_fewer, end-over, walk_whole}
 use Rattle.walk.specs.Promises.{BlockWalked}
@@ -34,10 +38,10 @@ module _ (s : List ℕ) (is-erased : erased s ≡ true) where
 -- Every entry that is counted is the entry reader's answer at 13 times its index, and that reader accepts it.
 
 abbrev pub nothing : Entry
-nothing = record { esr = 0; refusal = no_refusal; sequence = 0 }
+nothing = record { esr = 0; sequence = 0 }
 
 abbrev pub ReadAt : ℕ → List ℕ → Type 0
-ReadAt k s = (get_or (entries_of s) k nothing ≡ entry_of (drop (13 * k) s)) × (refusal_number (entry_of (drop (13 * k) s)).refusal ≡ 0)
+ReadAt k s = entry_of (drop (13 * k) s) ≡ Ok (get_or (entries_of s) k nothing)
 
 next_place : (k : ℕ) (s : List ℕ) → drop (13 * k) (drop 13 s) ≡ drop (13 * suc k) s
 next_place k s =
@@ -46,27 +50,34 @@ next_place k s =
 
 pub entry_at : (k : ℕ) (s : List ℕ) → k < length (entries_of s) → ReadAt k s
 entry_at zero s h =
-    by-sound s (λ free. (rw (entries_more s free), ap refusal_number (refusal_is s) ∙ free)) (λ bad. absurd (let g = rw (entries_none s bad) at h in omega arith))
+    by-sound s (λ free. entry-sound s free ∙ rw (entries_more s free))
+    (λ bad. absurd (let g = rw (entries_none s bad) at h in omega arith))
 entry_at (suc k) s h =
     by-sound s
     (λ free.
     let more = entry_at k (drop 13 s) (let g = rw (entries_more s free) at h in omega arith) in
     let place = next_place k s in
-    (rw (entries_more s free, ← place) more.0, rw (← place) more.1))
+    rw (entries_more s free, ← place) more)
     (λ bad. absurd (let g = rw (entries_none s bad) at h in omega arith))
 
+ok-free : (s : List ℕ) → is_ok (entry_of s) ≡ true → reason_number (judged s) ≡ 0
+ok-free s h =
+    by-sound s (λ free. free) (λ bad. absurd (true≢false (sym h ∙ ap is_ok (entry-refused s bad))))
+
 -- A block whose entries all read is walked to its end: it has as many entries as 13 goes into its length, and nothing ends the walk before.
-pub all_read : (n : ℕ) (s : List ℕ) → length s ≡ 13 * n → ((k : ℕ) → k < n → refusal_number (entry_of (drop (13 * k) s)).refusal ≡ 0)
-    → (length (entries_of s) ≡ n) × (end_refusal (drop (end_offset s) s) ≡ no_refusal)
+pub all_read : (n : ℕ) (s : List ℕ) → length s ≡ 13 * n
+    → ((k : ℕ) → k < n → is_ok (entry_of (drop (13 * k) s)) ≡ true)
+    → (length (entries_of s) ≡ n) × (end_refusal (drop (end_offset s) s) ≡ None)
 all_read n s long each =
     let count = counted n s long each in
     let end : length (drop (end_offset s) s) ≡ 0 = omega (arith, length-drop (end_offset s) s, count) in
     (count, end-over (drop (end_offset s) s) (rw (eq-eqb (length (drop (end_offset s) s)) 0 end)))
   where
-    counted : (n : ℕ) (s : List ℕ) → length s ≡ 13 * n → ((k : ℕ) → k < n → refusal_number (entry_of (drop (13 * k) s)).refusal ≡ 0) → length (entries_of s) ≡ n
+    counted : (n : ℕ) (s : List ℕ) → length s ≡ 13 * n
+        → ((k : ℕ) → k < n → is_ok (entry_of (drop (13 * k) s)) ≡ true) → length (entries_of s) ≡ n
     counted zero s long each = by-sound s (λ free. absurd (omega (arith, sound-long s free))) (λ bad. rw (entries_none s bad))
     counted (suc n) s long each =
-        let free : reason_number (judged s) ≡ 0 = sym (ap refusal_number (refusal_is s)) ∙ each 0 (omega arith) in
+        let free : reason_number (judged s) ≡ 0 = ok-free s (each 0 (omega arith)) in
         rw (entries_more s free)
         (ap suc
         (counted n (drop 13 s) (omega (arith, length-drop 13 s))
@@ -121,7 +132,7 @@ Fit [] = Unit {0}
 Fit ((sequence, esr) ∷ more) = (sequence < 256 ^ 2) × (esr < 256 ^ 8) × Fit more
 
 abbrev pub read_as : ℕ × ℕ → Entry
-read_as (sequence, esr) = record { esr = esr; refusal = no_refusal; sequence = sequence }
+read_as (sequence, esr) = record { esr = esr; sequence = sequence }
 
 pub one-read : (sequence esr : ℕ) (rest : List ℕ) → sequence < 256 ^ 2 → esr < 256 ^ 8
     → entries_of (entry_bytes sequence esr ++ rest) ≡ read_as (sequence, esr) ∷ entries_of rest
@@ -129,8 +140,7 @@ unfolding written
 one-read sequence esr rest small fits =
     let s : List ℕ = entry_bytes sequence esr ++ rest in
     let read = written-is-read sequence esr rest small fits in
-    let free : reason_number (judged s) ≡ 0 = sym (ap refusal_number (refusal_is s)) ∙ ap (λ (e : Entry). refusal_number e.refusal) read in
-    entries_more s free ∙ ap (λ (e : Entry). e ∷ entries_of rest) read
+    entries_more s (read-free s read) ∙ ap (λ (e : Entry). e ∷ entries_of rest) (sym (numbers_are s read))
 
 pub written_read : (es : List (ℕ × ℕ)) (rest : List ℕ) → Fit es → entries_of (block_bytes es ++ rest) ≡ map read_as es ++ entries_of rest
 unfolding block_bytes
@@ -147,7 +157,7 @@ sequences-read (e ∷ es) = ap (λ (qs : List ℕ). e.0 ∷ qs) (sequences-read 
 pub lost_told : (es : List (ℕ × ℕ)) (q m k n : ℕ) → Fit es → k < 65535
     → map (λ (e : ℕ × ℕ). e.0) es ≡ sequences_from q (suc m) ++ sequences_from (q + 1 + m + k) (suc n)
     → length (block_bytes es) ≤ 65536 → (before : List ℕ) → m + 1 + n ≤ length before
-    → (profile : Profile) (out : Walked × List ℕ) → BlockWalked (profile, block_bytes es, before) out
+    → (profile : Profile) (out : Result Walked Refusal × List ℕ) → BlockWalked (profile, block_bytes es, before) out
     → out.1 ≡ (replicate m 0 ++ (k ∷ replicate n 0)) ++ drop (m + 1 + n) before
 lost_told es q m k n fit h numbers short before room profile out promised =
     let none : entries_of [] ≡ [] = entries_end [] 0 (omega arith) in
@@ -156,5 +166,5 @@ lost_told es q m k n fit h numbers short before room profile out promised =
     ap (λ (l : List Entry). steps_of (sequences l)) all ∙ ap steps_of (sequences-read es ∙ numbers) ∙ lost_steps q m k n h in
     let count : length (steps_in (block_bytes es)) ≡ m + 1 + n =
     ap length steps ∙ length-append (replicate m 0) (k ∷ replicate n 0) ∙ omega (arith, length-replicate {A = ℕ} m 0, length-replicate {A = ℕ} n 0) in
-    ap (λ (o : Walked × List ℕ). o.1) (promised ∙ walk_whole profile (block_bytes es) before (m + 1 + n) short (sym count) room)
+    ap (λ (o : Result Walked Refusal × List ℕ). o.1) (promised ∙ walk_whole profile (block_bytes es) before (m + 1 + n) short (sym count) room)
     ∙ ap₂ (λ (a : List ℕ) (i : ℕ). a ++ drop i before) steps count

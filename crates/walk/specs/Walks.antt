@@ -1,6 +1,7 @@
 -- #104: what a walk over a fault block is. "The boot stage should read all entries of a block up to 65,536 bytes, one after another."
-use Rattle.std.specs.Prelude.{ℕ, zero, suc, ◌+◌, ◌-◌, ◌*◌, ◌%◌, Bool, cond, not, ◌&&◌, ◌||◌, List, [], ◌∷◌, ◌++◌, map, length, drop, ◌==◌, nat_lt, slice_index}
-use Rattle.entry.specs.Entries.{sound, entry_of, entry_bytes}
+use Rattle.std.specs.Prelude.{ℕ, zero, suc, ◌+◌, ◌-◌, ◌*◌, ◌%◌, Bool, cond, not, ◌&&◌, ◌||◌, List, [], ◌∷◌, ◌++◌, map, length, drop, ◌==◌, nat_lt, slice_index, Option, None, Result, Ok, Err}
+use Rattle.std.specs.Result.{result_err}
+use Rattle.entry.specs.Entries.{sound, numbers_in, entry_of, entry_bytes}
 use Rattle.entry.specs.declared.Entry.{Entry}
 use Rattle.refusals.specs.Refusals.{bare, carrying, no_refusal, passed}
 use Rattle.refusals.specs.declared.Reason.TheVariants.{LongBlock, ShortBuffer}
@@ -30,17 +31,18 @@ ends s = over s || not (sound s)
 -- the entries of a block, each where the one before it ends; there are not more than bytes
 unfoldable pub entries_within : ℕ → List ℕ → List Entry
 entries_within zero s = []
-entries_within (suc n) s = cond (ends s) [] (entry_of s ∷ entries_within n (drop entry_size s))
+entries_within (suc n) s = cond (ends s) [] (numbers_in s ∷ entries_within n (drop entry_size s))
 
 unfoldable pub entries_of : List ℕ → List Entry
 entries_of s = entries_within (length s) s
 
--- where the walk ends, and by which refusal: "the first bad entry, whose offset and refusal it gives"; none where no entry is bad
+-- where the walk ends, and by which refusal: "the first bad entry, whose offset and refusal it gives"; none where no
+-- entry is bad
 abbrev pub end_offset : List ℕ → ℕ
 end_offset s = entry_size * length (entries_of s)
 
-unfoldable pub end_refusal : List ℕ → Refusal
-end_refusal s = cond (over s) no_refusal (entry_of s).refusal
+unfoldable pub end_refusal : List ℕ → Option Refusal
+end_refusal s = cond (over s) None (result_err (entry_of s))
 
 -- "how many of their values decode": as the caller has them read, ordinarily or strictly (#110)
 abbrev pub decodes : Profile → ℕ → Bool
@@ -79,7 +81,7 @@ walk_refusal s places =
     (cond (nat_lt places (length (steps_in s))) (carrying ShortBuffer (length (steps_in s)))
     no_refusal)
 
--- the answer; on a refusal its numbers are 0
+-- the answer
 unfoldable pub walked : Profile → List ℕ → Walked
 walked profile s =
     record {
@@ -87,18 +89,15 @@ walked profile s =
       decoded = decoded_in profile (entries_of s);
       offset = end_offset s;
       ended = end_refusal (drop (end_offset s) s);
-      refusal = no_refusal;
     }
 
-abbrev pub refusing : Refusal → Walked
-refusing f = record { entries = 0; decoded = 0; offset = 0; ended = no_refusal; refusal = f }
-
--- the answer and the run afterwards, of a block and the run before: "Places past the steps stay", and all of them on a refusal
-unfoldable pub walking : Profile → List ℕ → List ℕ → Walked × List ℕ
+-- the answer and the run afterwards, of a block and the run before: "Places past the steps stay", and all of them on a
+-- refusal
+unfoldable pub walking : Profile → List ℕ → List ℕ → Result Walked Refusal × List ℕ
 walking profile s before =
     cond (passed (walk_refusal s (length before)))
-    (walked profile s, steps_in s ++ drop (length (steps_in s)) before)
-    (refusing (walk_refusal s (length before)), before)
+    (Ok (walked profile s), steps_in s ++ drop (length (steps_in s)) before)
+    (Err (walk_refusal s (length before)), before)
 
 -- Entries written one after another, each from its sequence and its ESR.
 

@@ -1,10 +1,10 @@
-// Walks over a fault block: how many entries it holds and how many of their values decode, what was skipped from each to the next, and where and
-// why the walk ends.
+// Walks over a fault block: how many entries it holds and how many of their values decode, what was skipped from each to
+// the next, and where and why the walk ends.
 #![tactic(auto)]
 
-ghost use Rattle.std.specs.Prelude.{◌≡◌, ◌-◌, ◌≤◌, ◌++◌, length, drop, if◌then◌else◌};
+ghost use Rattle.std.specs.Prelude.{◌≡◌, ◌≤◌, ◌++◌, length, drop, if◌then◌else◌};
 ghost use Rattle.walk.specs.Promises.{BlockWalked};
-ghost use Rattle.walk.specs.Walks.{decoded_in, decodes, end_refusal, entries_of, over, refusing, skipped, steps_in};
+ghost use Rattle.walk.specs.Walks.{decoded_in, decodes, end_refusal, entries_of, over, skipped, steps_in};
 
 use entry::read_entry;
 use refusals::{Reason, Refusal};
@@ -19,14 +19,13 @@ pub const ENTRY_SIZE: usize = 13;
 // What erased flash holds.
 const ERASED: u8 = 0xFF;
 
-// Where the walk ended, and by which bad entry, if any; or why there was none, all else being 0.
+// Where the walk ended, and by which bad entry, if any.
 #[derive(Clone, Copy)]
 pub struct Walked {
     pub entries: usize,
     pub decoded: usize,
     pub offset: usize,
-    pub ended: Refusal,
-    pub refusal: Refusal,
+    pub ended: Option<Refusal>,
 }
 
 #[derive(Clone, Copy)]
@@ -46,27 +45,23 @@ fn skipped_to(last: u16, next: u16) -> u16
 fn decoded_of(profile: Profile, esr: u64) -> usize
     ensures { result ≡ (if decodes profile esr then 1 else 0) }
 {
-    let answer = decode_by(profile, esr);
-    let refusal = answer.refusal;
-    if refusal.number() != 0 {
-        return 0;
+    if decode_by(profile, esr).refusal.is_refused() {
+        0
+    } else {
+        1
     }
-    1
 }
 
-// The entry reader refuses what stands where the walk ends, erased flash too, so that it alone is asked.
+// The entry reader refuses what stands where the walk ends, erased flash and the block's end too, so that it alone is
+// asked. No plainer by a range or by chunks: the place goes on by an entry's bytes, until the reader refuses.
 fn count(profile: Profile, block: &[u8]) -> Counts
-    ensures { (result.entries ≡ length (entries_of block.now)) × (result.decoded ≡ decoded_in profile (entries_of block.now)) }
+    ensures { (result.entries ≡ length (entries_of block.now))
+        × (result.decoded ≡ decoded_in profile (entries_of block.now)) }
 {
     let mut entries: usize = 0;
     let mut decoded: usize = 0;
     let mut at: usize = 0;
-    while at < block.len() {
-        let entry = read_entry(&block[at..]);
-        let ended = entry.refusal;
-        if ended.number() != 0 {
-            return Counts { entries, decoded };
-        }
+    while let Ok(entry) = read_entry(&block[at..]) {
         entries += 1;
         decoded += decoded_of(profile, entry.esr);
         at += ENTRY_SIZE;
@@ -74,55 +69,35 @@ fn count(profile: Profile, block: &[u8]) -> Counts
     Counts { entries, decoded }
 }
 
-fn steps_of(entries: usize) -> usize
-    ensures { result ≡ entries - 1 }
-{
-    if entries == 0 {
-        return 0;
-    }
-    entries - 1
-}
-
 // Whether no entry stands here: at the end of the block, and at two bytes 0xFF.
 fn is_over(rest: &[u8]) -> bool
     ensures { result ≡ over rest.now }
 {
-    if rest.len() < 2 {
-        return rest.len() == 0;
-    }
-    rest[0] == ERASED && rest[1] == ERASED
+    rest.is_empty() || rest.starts_with(&[ERASED, ERASED])
 }
 
 // That of the first bad entry, if one ended the walk.
-fn end_refusal(rest: &[u8]) -> Refusal
+fn end_refusal(rest: &[u8]) -> Option<Refusal>
     ensures { result ≡ end_refusal rest.now }
 {
     if is_over(rest) {
-        return Refusal::NONE;
+        return None;
     }
-    let entry = read_entry(rest);
-    entry.refusal
+    read_entry(rest).err()
 }
 
-// A step for each entry after the first: the run has room for them.
+// A step for each entry after the first: the run has room for them. The loop is that of `count`, by the same stride.
 fn write_steps(block: &[u8], steps: &mut [u16])
     requires { length (steps_in block.now) ≤ length steps.old }
     ensures { steps.new ≡ steps_in block.now ++ drop (length (steps_in block.now)) steps.old }
 {
-    let first = read_entry(block);
-    let refusal = first.refusal;
-    if refusal.number() != 0 {
+    let Ok(first) = read_entry(block) else {
         return;
-    }
+    };
     let mut last = first.sequence;
     let mut written: usize = 0;
     let mut at: usize = ENTRY_SIZE;
-    while at < block.len() {
-        let next = read_entry(&block[at..]);
-        let bad = next.refusal;
-        if bad.number() != 0 {
-            return;
-        }
+    while let Ok(next) = read_entry(&block[at..]) {
         steps[written] = skipped_to(last, next.sequence);
         last = next.sequence;
         written += 1;
@@ -130,37 +105,26 @@ fn write_steps(block: &[u8], steps: &mut [u16])
     }
 }
 
-fn refuse(refusal: Refusal) -> Walked
-    ensures { result ≡ refusing refusal }
-{
-    Walked {
-        entries: 0,
-        decoded: 0,
-        offset: 0,
-        ended: Refusal::NONE,
-        refusal,
-    }
-}
-
-// Counts first, so that a refusal leaves the run as it was. The profile says which values decode (#110); an entry is read alike by each.
-pub fn walk(profile: Profile, block: &[u8], steps: &mut [u16]) -> Walked
+// Counts first, so that a refusal leaves the run as it was. The profile says which values decode (#110); an entry is read
+// alike by each.
+pub fn walk(profile: Profile, block: &[u8], steps: &mut [u16]) -> Result<Walked, Refusal>
     ensures { BlockWalked (profile, block.now, steps.old) (result, steps.new) }
 {
     if LIMIT < block.len() {
-        return refuse(Refusal::carrying(Reason::LongBlock, 0));
+        return Err(Refusal::carrying(Reason::LongBlock, 0));
     }
-    let counts = count(profile, block);
-    let needed = steps_of(counts.entries);
+    let Counts { entries, decoded } = count(profile, block);
+    let needed = entries.saturating_sub(1);
     if steps.len() < needed {
-        return refuse(Refusal::carrying(Reason::ShortBuffer, needed as u64));
+        return Err(Refusal::carrying(Reason::ShortBuffer, needed as u64));
     }
     write_steps(block, steps);
-    let offset = ENTRY_SIZE * counts.entries;
-    Walked {
-        entries: counts.entries,
-        decoded: counts.decoded,
+    let offset = ENTRY_SIZE * entries;
+    let ended = end_refusal(&block[offset..]);
+    Ok(Walked {
+        entries,
+        decoded,
         offset,
-        ended: end_refusal(&block[offset..]),
-        refusal: Refusal::NONE,
-    }
+        ended,
+    })
 }

@@ -1,5 +1,5 @@
 -- The lines that tell a walk over a fault block, byte for byte. The first word of each says what it tells: ok, refused, lost, same, entries, end.
-use Rattle.std.specs.Prelude.{ℕ, cond, List, [], ◌++◌, eqb}
+use Rattle.std.specs.Prelude.{ℕ, cond, List, [], ◌++◌, eqb, Option, Some, None}
 use Rattle.digits.specs.Digits.{numeral}
 use Rattle.entry.specs.declared.Entry.{Entry}
 use Rattle.esr.specs.Decode.{class_of}
@@ -43,5 +43,6 @@ sound_end length offset = bytes "end" ++ place offset ++ cond (eqb offset length
 unfoldable pub bad_end : ℕ → Refusal → List ℕ
 bad_end offset f = refused_by f ++ place offset ++ bytes ": " ++ why f ++ bytes "\n"
 
-unfoldable pub end_line : ℕ → ℕ → Refusal → List ℕ
-end_line length offset f = cond (passed f) (sound_end length offset) (bad_end offset f)
+unfoldable pub end_line : ℕ → ℕ → Option Refusal → List ℕ
+end_line length offset None = sound_end length offset
+end_line length offset (Some f) = bad_end offset f

@@ -1,5 +1,5 @@
 -- What each public function promises: of what comes in and what the buffer holds before, the next offset and what the buffer holds after.
-use Rattle.std.specs.Prelude.{ℕ, List}
+use Rattle.std.specs.Prelude.{ℕ, List, Option}
 use Rattle.buffer.specs.Appending.{Appends}
 use Rattle.entry.specs.declared.Entry.{Entry}
 use Rattle.refusals.specs.declared.Refusal.{Refusal}
@@ -16,5 +16,5 @@ abbrev pub CountLine : List ℕ × ℕ × ℕ × ℕ → ℕ × List ℕ → Typ
 CountLine (before, at, entries, decoded) out = Appends (count_line entries decoded) (at, before) out
 
 -- of a block of this length
-abbrev pub EndLine : List ℕ × ℕ × ℕ × ℕ × Refusal → ℕ × List ℕ → Type 0
+abbrev pub EndLine : List ℕ × ℕ × ℕ × ℕ × Option Refusal → ℕ × List ℕ → Type 0
 EndLine (before, at, length, offset, ended) out = Appends (end_line length offset ended) (at, before) out

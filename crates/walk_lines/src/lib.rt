@@ -1,5 +1,5 @@
-// The lines that tell a walk over a fault block, in a lent buffer from an offset on: one for an entry, one for what was skipped after it, the counts,
-// and where and why the walk ended.
+// The lines that tell a walk over a fault block, in a lent buffer from an offset on: one for an entry, one for what was
+// skipped after it, the counts, and where and why the walk ended.
 #![tactic(auto)]
 
 ghost use Rattle.buffer.specs.Appending.{Appends};
@@ -20,7 +20,7 @@ const SAME: u16 = 65535;
 fn put_verdict(buf: &mut [u8], at: usize, refusal: Refusal) -> usize
     ensures { Appends (verdict refusal) (at, buf.old) (result, buf.new) }
 {
-    if refusal.number() != 0 {
+    if refusal.is_refused() {
         return put_refused(buf, at, refusal);
     }
     put_bytes(buf, at, b"ok")
@@ -47,7 +47,7 @@ fn put_numbers(buf: &mut [u8], at: usize, entry: Entry) -> usize
 fn put_meaning(buf: &mut [u8], at: usize, refusal: Refusal, esr: u64) -> usize
     ensures { Appends (meaning refusal esr) (at, buf.old) (result, buf.new) }
 {
-    if refusal.number() != 0 {
+    if refusal.is_refused() {
         return put_why(buf, at, refusal);
     }
     let pool = texts::pool_bytes();
@@ -66,8 +66,7 @@ pub fn put_entry_line(
 ) -> usize
     ensures { EntryLine (buf.old, at, profile, offset, entry) (result, buf.new) }
 {
-    let answer = decode_by(profile, entry.esr);
-    let refusal = answer.refusal;
+    let refusal = decode_by(profile, entry.esr).refusal;
     let mut next = put_verdict(buf, at, refusal);
     next = put_place(buf, next, offset);
     next = put_numbers(buf, next, entry);
@@ -122,12 +121,12 @@ pub fn put_end_line(
     at: usize,
     length: usize,
     offset: usize,
-    ended: Refusal,
+    ended: Option<Refusal>,
 ) -> usize
     ensures { EndLine (buf.old, at, length, offset, ended) (result, buf.new) }
 {
-    if ended.number() != 0 {
-        return put_bad_end(buf, at, offset, ended);
+    match ended {
+        Some(refusal) => put_bad_end(buf, at, offset, refusal),
+        None => put_sound_end(buf, at, length, offset),
     }
-    put_sound_end(buf, at, length, offset)
 }

@@ -1,13 +1,15 @@
--- An array of zeros, the steps written to its front, says what the steps say; and the whole reply, by whether the walk is refused.
+-- An array of zeros, the steps written to its front, says what the steps say; and the whole reply, by whether the walk is
+-- refused.
 use Prim.Native.Nat.{ℕ, zero, suc}
 use mathlib.Core.List.{List, [], ◌∷◌, ◌++◌}
-use mathlib.Core.Path.{◌≡◌, refl, sym, ap, ◌∙◌}
+use mathlib.Core.Path.{◌≡◌, refl, sym, ap, ap₂, ◌∙◌}
 use lib.ListN.{length, get_or, drop, replicate, length-replicate}
 use Rattle.buffer.proofs.InOrder.{each_same}
 use Rattle.buffer.specs.InOrder.{in_order}
 use Rattle.entry.specs.declared.Entry.{Entry}
-use Rattle.refusals.proofs.Cases.{passed_yes, passed_no}
-use Rattle.refusals.specs.Refusals.{passed, refusal_number}
+use Rattle.refusals.specs.Refusals.{passed}
+use Rattle.refusals.specs.declared.Refusal.{Refusal}
+use Rattle.std.specs.Prelude.{Result, Ok, Err}
 use Rattle.reply_lines.specs.Lines.{refusal_line}
 use Rattle.strict.specs.declared.Profile.{Profile}
 use Rattle.walk.proofs.Laws.{refusal-told, walk_passed}
@@ -37,31 +39,29 @@ same_lines profile a n es =
 
 -- The whole reply, of what a walk into an array of zeros answers and leaves.
 
-module _ (profile : Profile) (s after : List ℕ) (w : Walked) (is : (w, after) ≡ walking profile s (replicate step_room 0)) where
-  pub told : w.refusal ≡ walk_refusal s step_room
-  told =
-      ap (λ (o : Walked × List ℕ). o.0.refusal) is
-      ∙ refusal-told profile s (replicate step_room 0)
-      ∙ ap (walk_refusal s) (length-replicate {A = ℕ} step_room 0)
+module _ (profile : Profile) (s after : List ℕ) {r : Result Walked Refusal}
+    (is : (r, after) ≡ walking profile s (replicate step_room 0))
+  where
+    room : walk_refusal s (length {A = ℕ} (replicate step_room 0)) ≡ walk_refusal s step_room
+    room = ap (walk_refusal s) (length-replicate {A = ℕ} step_room 0)
 
-  module _ (n : ℕ) (number : n ≡ refusal_number w.refusal) where
-    pub reply_refused : (n ≡ 0 → ⊥) → walk_reply profile s ≡ refusal_line w.refusal
+    pub reply_refused : {f : Refusal} → r ≡ Err f → walk_reply profile s ≡ refusal_line f
     unfolding walk_reply
-    reply_refused h = rw (← told, passed_no w.refusal number h)
+    reply_refused e =
+        let t = refusal-told profile s (replicate step_room 0) after is e in
+        rw (sym (ap passed room) ∙ t.1) (sym (ap refusal_line (t.0 ∙ room)))
 
-    module _ (free : n ≡ 0) where
-      whole : ◌≡◌ {A = Walked × List ℕ} (w, after) (walked profile s, steps_in s ++ drop (length (steps_in s)) (replicate step_room 0))
-      whole =
-          is
-          ∙ walk_passed profile s (replicate step_room 0)
-          (ap (λ (k : ℕ). passed (walk_refusal s k)) (length-replicate {A = ℕ} step_room 0) ∙ ap passed (sym told) ∙ passed_yes w.refusal number free)
+    pub entries_told : {w : Walked} → r ≡ Ok w → w.entries ≡ length (entries_of s)
+    unfolding walked
+    entries_told e = ap (λ (w : Walked). w.entries) (walk_passed profile s (replicate step_room 0) after is e).1
 
-      pub entries_told : w.entries ≡ length (entries_of s)
-      unfolding walked
-      entries_told = ap (λ (o : Walked × List ℕ). o.0.entries) whole
-
-      pub reply_whole : in_order (lines_at profile after) (entries_of s) ++ count_line w.entries w.decoded ++ end_line (length s) w.offset w.ended ≡ walk_reply profile s
-      unfolding walked walk_reply
-      reply_whole =
-          ap (λ (o : Walked × List ℕ). in_order (lines_at profile o.1) (entries_of s) ++ count_line o.0.entries o.0.decoded ++ end_line (length s) o.0.offset o.0.ended) whole
-          ∙ rw (same_lines profile (steps_in s) step_room (entries_of s), ← told, passed_yes w.refusal number free)
+    pub reply_whole : {w : Walked} → r ≡ Ok w
+        → in_order (lines_at profile after) (entries_of s) ++ count_line w.entries w.decoded
+        ++ end_line (length s) w.offset w.ended
+        ≡ walk_reply profile s
+    unfolding walked walk_reply
+    reply_whole e =
+        let t = walk_passed profile s (replicate step_room 0) after is e in
+        ap₂ (λ (w : Walked) (l : List ℕ). in_order (lines_at profile l) (entries_of s)
+        ++ count_line w.entries w.decoded ++ end_line (length s) w.offset w.ended) t.1 t.2
+        ∙ rw (same_lines profile (steps_in s) step_room (entries_of s), sym (ap passed room) ∙ t.0)

@@ -1,5 +1,5 @@
-// What a workshop is told of a fault block, byte for byte, in a lent buffer from an offset on: a line for each entry, what was lost between two, the
-// counts, and where and why the walk ended; or why it is not walked.
+// What a workshop is told of a fault block, byte for byte, in a lent buffer from an offset on: a line for each entry, what
+// was lost between two, the counts, and where and why the walk ended; or why it is not walked.
 #![tactic(auto)]
 
 ghost use Rattle.buffer.specs.InOrder.{in_order};
@@ -22,10 +22,7 @@ const STEPS: usize = 5040;
 fn step_at(steps: &[u16], i: usize) -> u16
     ensures { result ≡ get_or steps.now i 0 }
 {
-    if steps.len() <= i {
-        return 0;
-    }
-    steps[i]
+    steps.get(i).copied().unwrap_or(0)
 }
 
 fn put_entries(
@@ -40,13 +37,11 @@ fn put_entries(
     ensures { Appends (in_order (lines_at profile steps.now) (entries_of block.now)) (at, buf.old) (result, buf.new) }
 {
     let mut next = at;
-    let mut i: usize = 0;
-    while i < count {
+    for i in 0..count {
         let offset = ENTRY_SIZE * i;
-        let entry = read_entry(&block[offset..]);
+        let entry = read_entry(&block[offset..]).unwrap();
         next = put_entry_line(buf, next, profile, offset, entry);
         next = put_step_line(buf, next, step_at(steps, i));
-        i += 1;
     }
     next
 }
@@ -63,12 +58,12 @@ pub fn put_walk_reply(buf: &mut [u8], at: usize, profile: Profile, block: &[u8])
     ensures { WalkReply (buf.old, at, profile, block.now) (result, buf.new) }
 {
     let mut steps = no_steps();
-    let walked = walk::walk(profile, block, &mut steps);
-    let refusal = walked.refusal;
-    if refusal.number() != 0 {
-        return put_refusal(buf, at, refusal);
+    match walk::walk(profile, block, &mut steps) {
+        Ok(walked) => {
+            let mut next = put_entries(buf, at, profile, block, &steps, walked.entries);
+            next = put_count_line(buf, next, walked.entries, walked.decoded);
+            put_end_line(buf, next, block.len(), walked.offset, walked.ended)
+        }
+        Err(refusal) => put_refusal(buf, at, refusal),
     }
-    let mut next = put_entries(buf, at, profile, block, &steps, walked.entries);
-    next = put_count_line(buf, next, walked.entries, walked.decoded);
-    put_end_line(buf, next, block.len(), walked.offset, walked.ended)
 }

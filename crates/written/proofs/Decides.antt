@@ -2,18 +2,20 @@
 use mathlib.Core.Path.{◌≡◌, ap₂}
 use mathlib.Core.List.{List}
 use Prim.Native.Nat.{ℕ}
+use Rattle.std.specs.Prelude.{Result}
 use Rattle.promise.proofs.Laws.{same}
 use Rattle.promise.specs.Promise.{Decides}
+use Rattle.refusals.specs.declared.Refusal.{Refusal}
 use Rattle.written.specs.Outcomes.{Outcome, Answers}
-use Rattle.written.specs.Promises.{BinaryString, Message, ValueString, WrittenRefused}
-use Rattle.written.specs.declared.Written.{Written}
+use Rattle.written.specs.Promises.{BinaryString, Message, RoomFor, ValueString}
 
 -- an outcome and a buffer leave one answer and one buffer
-pub only : (o : Outcome) (before : List ℕ) → (a b : Written × List ℕ) → Answers o before a → Answers o before b → a ≡ b
-only o before a b p q = ap₂ (λ (r : Written) (after : List ℕ). (r, after)) (same p.0 q.0) (same p.1 q.1)
+pub only : (o : Outcome) (before : List ℕ) → (a b : Result ℕ Refusal × List ℕ) → Answers o before a
+    → Answers o before b → a ≡ b
+only o before a b p q = ap₂ (λ (r : Result ℕ Refusal) (after : List ℕ). (r, after)) (same p.0 q.0) (same p.1 q.1)
 
-pub Written-refused_decides : Decides WrittenRefused
-Written-refused_decides (reason, carries) a b = same
+pub room_for_decides : Decides RoomFor
+room_for_decides (bytes, buf) a b = same
 
 pub value_string_decides : Decides ValueString
 value_string_decides (width, value, before) = only _ before

@@ -14,7 +14,7 @@ use borrow.Author.Rules.{rules}
 use Rattle.bench_layouts.proofs.put_records.Goals as goal
 
 pub loop-i-init : goal.loop-i-init
-loop-i-init c = (omega arith, refl, refl)
+loop-i-init c = (refl, refl)
 
 pub offset_bounds-records-i : goal.offset_bounds-records-i
 offset_bounds-records-i c = omega (arith, c.requires.0)
@@ -28,9 +28,6 @@ offset_bounds-slots-i c = omega (arith, c.requires.0)
 pub bounds-slots-i : goal.bounds-slots-i
 bounds-slots-i c = omega (arith, c.requires.1)
 
-pub overflow_add-i : goal.overflow_add-i
-overflow_add-i c = omega (arith, c.requires.0)
-
 pub loop-i-preserved : goal.loop-i-preserved
 loop-i-preserved c =
     let l = c.loop-i in
@@ -42,13 +39,12 @@ loop-i-preserved c =
     let is = c.words.ensures ∙ slot_at s l.i (omega arith) in
     let fits : length (all_words s) ≤ length slots = omega (arith, c.requires.1) in
     let more = so_far_more (all_words s) slots fits (words_of no_record) l.i word (omega arith) is in (
-      omega arith,
-      length-set l.slots l.i word ∙ l.invariant.1,
-      ap (λ (p : List (List ℕ)). set p l.i word) l.invariant.2 ∙ more,
+      length-set l.slots l.i word ∙ l.invariant.0,
+      ap (λ (p : List (List ℕ)). set p l.i word) l.invariant.1 ∙ more,
     )
 
 pub shape_of-slots : goal.shape_of-slots
-shape_of-slots c = c.loop-i.invariant.1
+shape_of-slots c = c.loop-i.invariant.0
 
 pub returns : goal.returns
 returns c =
@@ -57,4 +53,4 @@ returns c =
     let slots : List (List ℕ) = c.args.slots.now in
     let long : length s.items ≡ set_room = search (rules, long_as) in
     let n : length (all_words s) ≡ s.count = slots_count s long c.requires.0 in
-    (n, l.invariant.2 ∙ so_far-done (all_words s) slots (omega (arith, c.requires.1)) l.i (omega arith))
+    (n, l.invariant.1 ∙ so_far-done (all_words s) slots (omega (arith, c.requires.1)) l.i (omega arith))

@@ -1,5 +1,4 @@
 -- The invariant: the slots passed hold the records, and the others what they held at entry.
-use Prim.Native.Nat.{◌-◌, ◌≤◌}
 use mathlib.Core.Path.{◌≡◌}
 use lib.ListN.{length}
 use Rattle.capi.specs.Words.{all_words}
@@ -8,8 +7,5 @@ use Rattle.bench_layouts.proofs.put_records.Given as goal
 
 abbrev pub invariant-loop-i : goal.invariant-loop-i
 invariant-loop-i l =
-    (l.i ≤ l.records.count) × (length l.slots ≡ length l.initial.slots)
+    (length l.slots ≡ length l.initial.slots)
     × (l.slots ≡ so_far (all_words l.records) l.initial.slots l.i)
-
-abbrev pub decreases-loop-i : goal.decreases-loop-i
-decreases-loop-i l = l.records.count - l.i

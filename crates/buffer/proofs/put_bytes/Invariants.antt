@@ -1,13 +1,8 @@
 -- The invariant: the bytes so far stand in the buffer, one run of stores. It ends where the bytes do, or the buffer.
 use mathlib.Core.Path.{◌≡◌}
-use Prim.Native.Nat.{◌-◌, ◌≤◌}
 use lib.ListN.{length, take}
 use lib.Seq.{sets}
 use Rattle.buffer.proofs.put_bytes.Given as goal
 
 abbrev pub invariant-loop-j : goal.invariant-loop-j
-invariant-loop-j l =
-    (l.j ≤ l.count) × (l.buf ≡ sets l.initial.buf l.at (take l.j l.src)) × (length l.buf ≡ length l.initial.buf)
-
-abbrev pub decreases-loop-j : goal.decreases-loop-j
-decreases-loop-j l = l.count - l.j
+invariant-loop-j l = (l.buf ≡ sets l.initial.buf l.at (take l.j l.src)) × (length l.buf ≡ length l.initial.buf)

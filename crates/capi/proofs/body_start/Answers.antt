@@ -1,10 +1,9 @@
--- By the refusal's number.
-use borrow.Author.Tests.{eq-eqb, ne_eqb}
-use mathlib.Core.Path.{sym, ◌∙◌}
+-- By whether anything is refused.
+use Rattle.refusals.proofs.Cases.{passed-is, refused-is}
 use Rattle.capi.proofs.body_start.Goals as goal
 
-pub returns-then-number-eq0 : goal.returns-then-number-eq0
-returns-then-number-eq0 c = simp (eq-eqb _ _ (sym c.number.ensures ∙ c.if-number-eq0.true))
+pub returns-then-is_refused : goal.returns-then-is_refused
+returns-then-is_refused c = rw (refused-is c.args.refusal c.is_refused.ensures c.if-is_refused.true)
 
 pub returns : goal.returns
-returns c = simp (ne_eqb _ _ (λ e. c.if-number-eq0.false (c.number.ensures ∙ e)))
+returns c = rw (passed-is c.args.refusal c.is_refused.ensures c.if-is_refused.false)

@@ -1,20 +1,13 @@
--- By whether the count is past the room.
+-- A part of a list is no longer than the list, and a set has 19 slots.
 use mathlib.Core.Path.{◌≡◌}
 use native.Mathlib.Omega.{arith}
-use lib.ListN.{length}
+use lib.ListN.{length, length-take}
 use Rattle.records.proofs.Laws.{long_as}
-use Rattle.diff_reply.proofs.Laws.{counted-all, counted-some}
 use borrow.Author.Rules.{rules}
 use Rattle.diff_reply.proofs.counted.Goals as goal
-
-pub returns-then-records-gt-MAX : goal.returns-then-records-gt-MAX
-returns-then-records-gt-MAX c =
-    let s = c.args.records in
-    let long : length s.items ≡ 19 = search (rules, long_as) in
-    (counted-all s long c.if-records-gt-MAX.true, omega arith)
 
 pub returns : goal.returns
 returns c =
     let s = c.args.records in
     let long : length s.items ≡ 19 = search (rules, long_as) in
-    (counted-some s long c.if-records-gt-MAX.false, c.if-records-gt-MAX.false)
+    (omega (arith, length-take s.count s.items, long), omega arith)

@@ -10,39 +10,38 @@ use Rattle.buffer.proofs.Writing.{set-sets}
 use Rattle.digits.specs.Digits.{digit_char, digits_of}
 use Rattle.digits.proofs.Numerals.{digit-before, rest-above, digits_put}
 use Rattle.digits.proofs.put_decimal.Goals as goal
-use Rattle.digits.proofs.put_decimal.Goals.{then-left-count, else-left-count}
+use Rattle.digits.proofs.put_decimal.Goals.{then-i-count, else-i-count}
 
-pub loop-left-init : goal.loop-left-init
+pub loop-i-init : goal.loop-i-init
 unfolding digits_of
-loop-left-init c = (omega arith, rw (sub_self, pow-zero, div-one), rw sub_self, refl)
+loop-i-init c = (rw (sub_self, pow-zero, div-one), rw sub_self, refl)
 
-pub loop-left-preserved : goal.loop-left-preserved
-loop-left-preserved c =
-    let l = c.loop-left in
+pub loop-i-preserved : goal.loop-i-preserved
+loop-i-preserved c =
+    let l = c.loop-i in
     let a = c.args in
-    let k : ℕ = a.n - l.left in
-    let j : ℕ = a.at + (l.left - 1) in
-    let e : a.n - (l.left - 1) ≡ suc k = omega arith in
-    let i : a.at + l.left ≡ suc j = omega arith in
+    let k : ℕ = a.n - l.i in
+    let j : ℕ = a.at + (l.i - 1) in
+    let e : a.n - (l.i - 1) ≡ suc k = omega arith in
+    let i : a.at + l.i ≡ suc j = omega arith in
     let d : ℕ = digit_char (l.rest % 10) in
-    let put : c.if-left-count.buf ≡ set l.buf j d =
-    elim c.if-left-count.branch [
-      | then-left-count w ↦ w.buf-is ∙ ap (set l.buf j) w.digit.ensures
-      | else-left-count w ↦
-          w.buf-is ∙ sym (set_out l.buf j d (omega (arith, c.taken-count.ensures.2 (omega arith))))
+    let put : c.if-i-count.buf ≡ set l.buf j d =
+    elim c.if-i-count.branch [
+      | then-i-count w ↦ w.buf-is ∙ ap (set l.buf j) w.digit.ensures
+      | else-i-count w ↦
+          w.buf-is ∙ sym (set_out l.buf j d (omega arith))
     ] in (
-      omega arith,
       cc (rest-above 10 k a.value),
       cc (
         set-sets a.buf.now j (suc j) d (digits_of 10 k a.value) (omega arith),
         digit-before 10 k a.value a.buf.now j,
       ),
-      ap length put ∙ simp length-set l.invariant.3,
+      ap length put ∙ simp length-set l.invariant.2,
     )
 
 pub returns : goal.returns
 returns c =
-    let l = c.loop-left in
+    let l = c.loop-i in
     let a = c.args in
-    let z : l.left ≡ 0 = omega arith in
-    digits_put 10 a.n a.value (omega arith) c.offset_after.ensures (sym (rw (z, add-zero, sub-zero) at l.invariant.2))
+    let z : l.i ≡ 0 = omega arith in
+    digits_put 10 a.n a.value (omega arith) c.offset_after.ensures (sym (rw (z, add-zero, sub-zero) at l.invariant.1))

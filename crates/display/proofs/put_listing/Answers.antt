@@ -4,6 +4,4 @@ use Rattle.records.specs.Sets.{list_of}
 use Rattle.display.proofs.put_listing.Goals as goal
 
 pub returns : goal.returns
-returns c =
-    let a = c.args in
-    rw (own-listing a.pool.now a.starts.now (list_of a.records)) at c.put_records.ensures
+returns c = rw (← own-listing c.args.pool.now c.args.starts.now (list_of c.args.records)) c.put_records.ensures

@@ -6,5 +6,4 @@ use Rattle.display.proofs.put_listing_with.Goals as goal
 pub returns : goal.returns
 returns c =
     let a = c.args in
-    rw (sheets_listing a.pool.now a.starts.now a.workshop.now a.standard.now (list_of a.records)) at
-    c.put_records.ensures
+    rw (← sheets_listing a.pool.now a.starts.now a.workshop.now a.standard.now (list_of a.records)) c.put_records.ensures

@@ -1,36 +1,35 @@
 -- A row that does not apply does not fail; one that does is looked at by its mark.
-use mathlib.Core.Path.{refl, sym, ap, ap₂, ◌∙◌}
 use mathlib.Core.Bool.{not}
+use mathlib.Core.Logic.{inl, inr}
+use mathlib.Core.Path.{sym, ap, ap₂, ◌∙◌}
 use Prim.Native.Nat.{ℕ}
 use lib.Dec.{eqb}
 use Rattle.texts.specs.Pool.{describes}
-use Rattle.engine.proofs.Direct.{over, fails-checked, fails-coded, never-fails}
+use Rattle.records.specs.declared.Mark.TheVariants as mark
+use Rattle.engine.proofs.Direct.{over, fails-by}
 use Rattle.engine.proofs.fails.Goals as goal
 
 pub returns-then-not-applies : goal.returns-then-not-applies
 returns-then-not-applies c =
-    let a = c.args in
-    over a.iss a.word a.answers _ refl (sym c.applies.ensures ∙ c.if-not-applies.true)
+    over c.args.answers c.args.iss c.args.word (sym c.applies.ensures ∙ c.if-not-applies.true)
 
-pub returns-then-kind-eq-CHECKED : goal.returns-then-kind-eq-CHECKED
-returns-then-kind-eq-CHECKED c =
+pub returns-in-Checked : goal.returns-in-Checked
+returns-in-Checked c =
     let a = c.args in
     ap (λ (n : ℕ). not (eqb n 0)) c.value_in-value.ensures
-    ∙ fails-checked a.iss a.word a.answers c.byte-kind.result c.byte-kind.ensures
-    (sym c.applies.ensures ∙ c.if-not-applies.false)
-    c.if-kind-eq-CHECKED.true
+    ∙ fails-by a.answers a.iss a.word (sym c.applies.ensures ∙ c.if-not-applies.false) c.byte.ensures c.of_kind.ensures
+    mark.Checked c.in-Checked.is
 
-pub returns-then-kind-eq-CODED : goal.returns-then-kind-eq-CODED
-returns-then-kind-eq-CODED c =
+pub returns-in-Coded : goal.returns-in-Coded
+returns-in-Coded c =
     let a = c.args in
-    ap not (c.describes.ensures ∙ ap₂ describes c.byte.ensures c.value_in-value.ensures)
-    ∙ fails-coded a.iss a.word a.answers c.byte-kind.result c.byte-kind.ensures
-    (sym c.applies.ensures ∙ c.if-not-applies.false)
-    c.if-kind-eq-CODED.true
+    ap not (c.describes.ensures ∙ ap₂ describes c.byte-in-Coded.ensures c.value_in-value.ensures)
+    ∙ fails-by a.answers a.iss a.word (sym c.applies.ensures ∙ c.if-not-applies.false) c.byte.ensures c.of_kind.ensures
+    mark.Coded c.in-Coded.is
 
-pub returns : goal.returns
-returns c =
+pub returns-in-Free : goal.returns-in-Free
+returns-in-Free c =
     let a = c.args in
-    never-fails a.iss a.word a.answers c.byte-kind.result c.byte-kind.ensures
-    (sym c.applies.ensures ∙ c.if-not-applies.false)
-    c.if-kind-eq-CHECKED.false c.if-kind-eq-CODED.false
+    let by : _ = fails-by a.answers a.iss a.word (sym c.applies.ensures ∙ c.if-not-applies.false) c.byte.ensures
+    c.of_kind.ensures in
+    elim c.in-Free.is [ inl e ↦ by mark.Free e | inr e ↦ by mark.Unchecked e ]

@@ -1,8 +1,9 @@
 -- The invariant: what is left of the checks answers as all of them do.
 use mathlib.Core.Path.{sym, ap, ◌∙◌, subst}
-use Prim.Native.Nat.{ℕ}
+use Prim.Native.Nat.{ℕ, ◌+◌, ◌-◌}
 use native.Mathlib.Omega.{arith}
 use lib.Dec.{T}
+use Rattle.refusals.specs.Refusals.{checked}
 use Rattle.records.specs.Rows.{refusal_of}
 use Rattle.engine_table.specs.Packed.{row_word}
 use Rattle.engine.specs.Engine.{direct}
@@ -16,21 +17,23 @@ fails-requires c = subst (λ (n : ℕ). T (direct n)) (sym c.row_word-word.ensur
 pub returns-then-fails : goal.returns-then-fails
 returns-then-fails c =
     let a = c.args in
-    c.refusal.ensures
+    c.check.ensures
+    ∙ ap checked
+    (c.refusal.ensures
     ∙ ap (refusal_of a.iss) c.row_in.ensures
     ∙ sym
-    (c.loop-left.invariant
-    ∙ check-fails a.answers a.iss c.loop-left.rest c.loop-left.left c.row_word-word.result (omega arith)
-    (c.row_word-word.ensures ∙ ap row_word c.byte.ensures) (sym c.fails.ensures ∙ c.if-fails.true))
+    (c.loop.invariant
+    ∙ check-fails a.answers a.iss c.loop.rest c.row_word-word.result {m = a.count - (c.loop.counter + 1)} (omega arith)
+    (c.row_word-word.ensures ∙ ap row_word c.byte.ensures) (sym c.fails.ensures ∙ c.if-fails.true)))
 
-pub loop-left-preserved : goal.loop-left-preserved
-loop-left-preserved c =
+pub loop-preserved : goal.loop-preserved
+loop-preserved c =
     let a = c.args in
-    c.loop-left.invariant
-    ∙ check-passes a.answers a.iss c.loop-left.rest c.loop-left.left c.row_word-word.result (omega arith)
+    c.loop.invariant
+    ∙ check-passes a.answers a.iss c.loop.rest c.row_word-word.result (omega arith)
     (c.row_word-word.ensures ∙ ap row_word c.byte.ensures) (sym c.fails.ensures ∙ c.if-fails.false)
 
 pub returns : goal.returns
 returns c =
     let a = c.args in
-    sym (c.loop-left.invariant ∙ checks-done a.answers a.iss c.loop-left.rest c.loop-left.left (omega arith))
+    ap checked (sym (c.loop.invariant ∙ checks-done a.answers a.iss c.loop.rest _ (omega arith)))

@@ -50,7 +50,6 @@ unfolding pushed_all top_rows code index_in names
 loop-i-init c =
     let a = c.args in (
       layout-fits a.number a.iss c.layout_of-layout.result c.layout_of-layout.ensures,
-      omega arith,
       five c.empty-out.result c.get.result c.get-2.result c.get-3.result
           c.get-4.result c.get-5.result c.empty-out.ensures
           ∙ ap records_of
@@ -59,26 +58,26 @@ loop-i-init c =
           (cons c.get-3.ensures (cons c.get-4.ensures (cons c.get-5.ensures refl))))),
     )
 
-pub offset_bounds-out-at : goal.offset_bounds-out-at
-offset_bounds-out-at c =
+pub offset_bounds-out-out : goal.offset_bounds-out-out
+offset_bounds-out-out c =
     let a = c.args in
     let l = c.loop-i in
     let v = l.invariant in
-    omega (arith, v.0.few, counted a.esr a.iss c.layout_of-layout.result l.out l.i v.0 v.1 v.2)
+    omega (arith, v.0.few, counted a.esr a.iss c.layout_of-layout.result l.out l.i v.0 (omega arith) v.1)
 
-pub bounds-out-at : goal.bounds-out-at
-bounds-out-at c =
+pub bounds-out-out : goal.bounds-out-out
+bounds-out-out c =
     let a = c.args in
     let l = c.loop-i in
     let v = l.invariant in
-    omega (arith, v.0.few, counted a.esr a.iss c.layout_of-layout.result l.out l.i v.0 v.1 v.2)
+    omega (arith, v.0.few, counted a.esr a.iss c.layout_of-layout.result l.out l.i v.0 (omega arith) v.1)
 
 pub overflow_add-out : goal.overflow_add-out
 overflow_add-out c =
     let a = c.args in
     let l = c.loop-i in
     let v = l.invariant in
-    omega (arith, v.0.few, counted a.esr a.iss c.layout_of-layout.result l.out l.i v.0 v.1 v.2)
+    omega (arith, v.0.few, counted a.esr a.iss c.layout_of-layout.result l.out l.i v.0 (omega arith) v.1)
 
 pub loop-i-preserved : goal.loop-i-preserved
 loop-i-preserved c =
@@ -86,9 +85,8 @@ loop-i-preserved c =
     let a = c.args in
     let laid = c.layout_of-layout.result in (
       f,
-      omega arith,
       walk_more a.iss (top_set a.esr laid) c.loop-i.out laid.rows c.loop-i.i c.get-item.result
-          c.loop-i.invariant.2 c.get-item.ensures
+          c.loop-i.invariant.1 c.get-item.ensures
           (omega (arith, f.few, f.long)) (omega (arith, f.few, topped a.esr laid)),
     )
 
@@ -99,5 +97,5 @@ returns c =
     let laid = c.layout_of-layout.result in
     let done : c.loop-i.i ≡ laid.count = omega arith in
     laid-records a.number a.iss laid c.layout_of-layout.ensures a.esr (top_set a.esr laid) c.loop-i.out refl
-    (c.loop-i.invariant.2
+    (c.loop-i.invariant.1
     ∙ ap (λ (n : ℕ). pushed_all (top_set a.esr laid) (map (record_of a.iss) (take n laid.rows))) done)

@@ -2,7 +2,6 @@
 -- records with those of the rows walked so far, and each turn writes one record after them.
 use mathlib.Core.Path.{◌≡◌}
 use mathlib.Core.List.{map}
-use Prim.Native.Nat.{◌-◌, ◌≤◌}
 use lib.ListN.{take}
 use Rattle.records.specs.Rows.{record_of}
 use Rattle.records.specs.Sets.{records_of}
@@ -14,9 +13,5 @@ use Rattle.esr.proofs.all_records.Given as goal
 abbrev pub invariant-loop-i : goal.invariant-loop-i
 invariant-loop-i l =
     Fits l.layout
-    × (l.i ≤ l.layout.count)
     × (l.out ≡ pushed_all (records_of (map (record_of l.esr) (top_rows l.layout.rule)))
     (map (record_of l.iss) (take l.i l.layout.rows)))
-
-abbrev pub decreases-loop-i : goal.decreases-loop-i
-decreases-loop-i l = l.layout.count - l.i

@@ -1,9 +1,6 @@
--- The turns that are left fall; the part keeps its length.
+-- The part keeps its length.
 use Rattle.std.proofs.Common.{◌≡◌, length}
 use Rattle.esr_survey.proofs.count_values.Given as goal
 
-abbrev pub invariant-loop-turns : goal.invariant-loop-turns
-invariant-loop-turns l = length l.part ≡ length l.fn.part
-
-abbrev pub decreases-loop-turns : goal.decreases-loop-turns
-decreases-loop-turns l = l.turns
+abbrev pub invariant-reads : goal.invariant-reads
+invariant-reads l = length l.part ≡ length l.fn.part

@@ -1,9 +1,14 @@
--- The invariant says what is left: the rows are the same where those from an index on are.
-use mathlib.Core.Path.{sym, ap₂, ◌∙◌}
+-- As many leaves, each the same as the other's.
+use Prim.Native.Nat.{ℕ}
+use mathlib.Core.Path.{◌≡◌, refl, sym, ◌∙◌}
 use native.Mathlib.Omega.{arith}
-use Rattle.leaf_values.proofs.Laws.{other_lengths, rows-done, rows_other, rows_more}
+use lib.ListN.{length}
+use borrow.Author.Rules.{rules}
+use Rattle.leaf_values.proofs.Laws.{other_lengths, rows_are}
 use Rattle.leaf_values.specs.Leaves.{leaves_of, same_row}
 use Rattle.leaf_values.specs.Values.{leaf_row}
+use Rattle.std.proofs.lemmas.Iterator.{YieldsList-from_range}
+use Rattle.std.proofs.lemmas.Iterator.Search.{all_from_yields_List}
 use Rattle.leaf_values.proofs.same_sets.Goals as goal
 
 pub returns-then-leaf_count-count : goal.returns-then-leaf_count-count
@@ -12,34 +17,16 @@ returns-then-leaf_count-count c =
     sym (other_lengths (leaves_of a.number a.iss) (leaves_of a.second a.other)
     (λ e. c.if-leaf_count-count.true (c.leaf_count.ensures ∙ e ∙ sym c.leaf_count-count.ensures)))
 
-pub returns-then-not-same_row : goal.returns-then-not-same_row
-unfolding leaf_row
-returns-then-not-same_row c =
-    let a = c.args in
-    let e =
-    ap₂ same_row (sym c.leaf_row.ensures) (sym c.leaf_row-in-loop-i.ensures)
-    ∙ sym c.same_row.ensures ∙ c.if-not-same_row.true in
-    sym (c.loop-i.invariant
-    ∙ rows_other (leaves_of a.number a.iss) (leaves_of a.second a.other) c.loop-i.i
-    (omega (arith, c.loop-i-test.true, c.leaf_count-count.ensures))
-    (omega (arith, c.loop-i-test.true, c.leaf_count.ensures, c.if-leaf_count-count.false)) e)
-
-pub loop-i-preserved : goal.loop-i-preserved
-unfolding leaf_row
-loop-i-preserved c =
-    let a = c.args in
-    let e =
-    ap₂ same_row (sym c.leaf_row.ensures) (sym c.leaf_row-in-loop-i.ensures)
-    ∙ sym c.same_row.ensures ∙ c.if-not-same_row.false in
-    c.loop-i.invariant
-    ∙ rows_more (leaves_of a.number a.iss) (leaves_of a.second a.other) c.loop-i.i
-    (omega (arith, c.loop-i-test.true, c.leaf_count-count.ensures))
-    (omega (arith, c.loop-i-test.true, c.leaf_count.ensures, c.if-leaf_count-count.false)) e
-
 pub returns : goal.returns
+unfolding leaf_row
 returns c =
     let a = c.args in
-    sym (c.loop-i.invariant
-    ∙ rows-done (leaves_of a.number a.iss) (leaves_of a.second a.other) c.loop-i.i
-    (omega (arith, c.loop-i-test.false, c.leaf_count-count.ensures))
-    (omega (arith, c.loop-i-test.false, c.leaf_count.ensures, c.if-leaf_count-count.false)))
+    let xs = leaves_of a.number a.iss in
+    let ys = leaves_of a.second a.other in
+    let n = c.leaf_count-count.result in
+    let many : length xs ≡ length ys =
+    sym c.leaf_count-count.ensures ∙ sym c.if-leaf_count-count.false ∙ c.leaf_count.ensures in
+    all_from_yields_List (λ (i : ℕ). same_row (leaf_row a.number a.iss i) (leaf_row a.second a.other i)) _ _ _
+    c.all.ensures.ran (YieldsList-from_range 0 n (length xs) refl (omega (arith, c.leaf_count-count.ensures)))
+    (λ x b q k. search rules)
+    ∙ rows_are xs ys many

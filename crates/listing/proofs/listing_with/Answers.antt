@@ -17,7 +17,7 @@ use Rattle.records.specs.Sets.{list_of}
 use Rattle.texts.specs.Pool.{bytes_at}
 use Rattle.listing.proofs.Answers.{with_no, with_bad, with_yes}
 use Rattle.listing.proofs.LongestWith.{with_most}
-use Rattle.written.proofs.Kept.{by-refusal, by_shortness, by_writing}
+use Rattle.written.proofs.Kept.{exit, by-refusal, by_shortness, by_writing}
 use Rattle.listing.proofs.listing_with.Goals as goal
 
 -- past the sheets' judgement: what is measured and written is small, and is the definition's
@@ -26,39 +26,40 @@ small : {a : Answer} (esr : ℕ) (workshop standard : List ℕ) → a ≡ answer
     → length (listing_with bytes_at (text_in workshop standard) (list_of a.records)) < 2 ^ 64
 small esr workshop standard is long w s = omega (arith, with_most esr is long workshop standard w s)
 
-pub returns-then-number-ne0 : goal.returns-then-number-ne0
-returns-then-number-ne0 c =
-    by-refusal (with_no _ c.decode-answer.ensures c.number.ensures _ _ c.if-number-ne0.true) refl
+pub returns-in_err-check : goal.returns-in_err-check
+returns-in_err-check c =
+    by-refusal (with_no _ c.decode-answer.ensures c.check.ensures _ _ c.in_err-check.was) (exit c.from_residual.ensures)
 
-pub returns-then-number-ne0-2 : goal.returns-then-number-ne0-2
-returns-then-number-ne0-2 c =
+pub returns-in_err-check-2 : goal.returns-in_err-check-2
+returns-in_err-check-2 c =
     by-refusal
-    (with_bad _ c.decode-answer.ensures c.number.ensures _ _ c.if-number-ne0.false c.sheets_refusal-bad.ensures
-    c.number-2.ensures c.if-number-ne0-2.true)
-    refl
+    (with_bad _ c.decode-answer.ensures c.check.ensures _ _ c.in_ok-check.was c.sheets_refusal-bad.ensures
+    c.check-2.ensures c.in_err-check-2.was) (exit c.from_residual-in_err-check-2.ensures)
 
-pub returns-then-buf-bytes : goal.returns-then-buf-bytes
-returns-then-buf-bytes c =
+pub returns-in_err-bytes : goal.returns-in_err-bytes
+returns-in_err-bytes c =
     let a = c.args in
-    let long : length c.decode-answer.result.records.items ≡ 19 = search (rules, long_as) in
+    let d = c.decode-answer in
+    let long : length d.result.records.items ≡ 19 = search (rules, long_as) in
     let own = with_lent (record { whole = c.pool_bytes-pool.ensures; each = c.text_starts-starts.ensures })
-    (text_in a.workshop.now a.standard.now) (list_of c.decode-answer.result.records) in
+    (text_in a.workshop.now a.standard.now) (list_of d.result.records) in
     by_shortness
-    (with_yes _ c.decode-answer.ensures c.number.ensures _ _ c.if-number-ne0.false c.sheets_refusal-bad.ensures
-    c.number-2.ensures c.if-number-ne0-2.false)
-    (small a.esr a.workshop.now a.standard.now c.decode-answer.ensures long (λ i. (c.type_inv.workshop i).fits)
-    (λ i. (c.type_inv.standard i).fits)) (rw own at c.put_listing_with-bytes.ensures) c.if-buf-bytes.true
-    c.refused.ensures
+    (with_yes _ d.ensures c.check.ensures _ _ c.in_ok-check.was c.sheets_refusal-bad.ensures c.check-2.ensures
+    c.in_ok-check-2.was)
+    (small a.esr a.workshop.now a.standard.now d.ensures long (λ i. (c.type_inv.workshop i).fits)
+    (λ i. (c.type_inv.standard i).fits)) (rw own at c.put_listing_with-measured.ensures) c.room_for.ensures
+    c.in_err-bytes.was (exit c.from_residual-in_err-bytes.ensures)
 
 pub returns : goal.returns
 returns c =
     let a = c.args in
-    let long : length c.decode-answer.result.records.items ≡ 19 = search (rules, long_as) in
+    let d = c.decode-answer in
+    let long : length d.result.records.items ≡ 19 = search (rules, long_as) in
     let own = with_lent (record { whole = c.pool_bytes-pool.ensures; each = c.text_starts-starts.ensures })
-    (text_in a.workshop.now a.standard.now) (list_of c.decode-answer.result.records) in
+    (text_in a.workshop.now a.standard.now) (list_of d.result.records) in
     by_writing
-    (with_yes _ c.decode-answer.ensures c.number.ensures _ _ c.if-number-ne0.false c.sheets_refusal-bad.ensures
-    c.number-2.ensures c.if-number-ne0-2.false)
-    (small a.esr a.workshop.now a.standard.now c.decode-answer.ensures long (λ i. (c.type_inv.workshop i).fits)
-    (λ i. (c.type_inv.standard i).fits)) (rw own at c.put_listing_with-bytes.ensures) c.if-buf-bytes.false
-    (rw own at c.put_listing_with.ensures) refl
+    (with_yes _ d.ensures c.check.ensures _ _ c.in_ok-check.was c.sheets_refusal-bad.ensures c.check-2.ensures
+    c.in_ok-check-2.was)
+    (small a.esr a.workshop.now a.standard.now d.ensures long (λ i. (c.type_inv.workshop i).fits)
+    (λ i. (c.type_inv.standard i).fits)) (rw own at c.put_listing_with-measured.ensures) c.room_for.ensures
+    c.in_ok-bytes.was (rw own at c.put_listing_with.ensures) refl

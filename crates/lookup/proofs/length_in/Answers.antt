@@ -1,17 +1,16 @@
--- The length is the next start less this one; past the last start it is 0, and where the next is not after, the difference is 0.
+-- The length is the next start less this one; past the last start it is 0, and where the next is not after, the
+-- difference is 0.
 use mathlib.Core.Path.{sym}
 use native.Mathlib.Omega.{arith}
 use Rattle.texts.specs.Pool.{length_in}
 use Rattle.texts.proofs.Laws.{past-starts}
 use Rattle.lookup.proofs.length_in.Goals as goal
 
-pub returns-then-starts-at : goal.returns-then-starts-at
-returns-then-starts-at c = sym (past-starts c.args.starts.now c.args.code (omega arith))
-
-pub returns-then-to-from : goal.returns-then-to-from
-unfolding length_in
-returns-then-to-from c = omega arith
+pub returns-in_default : goal.returns-in_default
+returns-in_default c =
+    let a = c.args in
+    sym (past-starts a.starts.now a.code (omega (arith, c.in_default.ensures.lookup)))
 
 pub returns : goal.returns
 unfolding length_in
-returns c = omega arith
+returns c = grind arith

@@ -7,21 +7,18 @@ use Rattle.make_lines.specs.Help.{leaf_line}
 use Rattle.make_lines.proofs.put_leaves.Goals as goal
 
 pub loop-i-init : goal.loop-i-init
-loop-i-init c = (omega arith, rw (below_none _) (none (omega arith)), refl)
+loop-i-init c = (rw (below_none _) (none (omega arith)), refl)
 
 pub put_leaf-next-requires : goal.put_leaf-next-requires
 put_leaf-next-requires c = omega (arith, c.loop-i-test.true, c.requires)
 
-pub overflow_add-i : goal.overflow_add-i
-overflow_add-i c = omega (arith, c.loop-i-test.true, c.requires)
-
 pub loop-i-preserved : goal.loop-i-preserved
 loop-i-preserved c =
-    let w = and_then c.loop-i.invariant.1 c.put_leaf-next.ensures in
+    let w = and_then c.loop-i.invariant.0 c.put_leaf-next.ensures in
     let line = leaf_line c.args.number c.args.iss in
-    (omega (arith, c.loop-i-test.true), rw (below_more line c.loop-i.i) w, same_length w)
+    (rw (below_more line c.loop-i.i) w, same_length w)
 
 pub returns : goal.returns
 returns c =
-    let e : c.loop-i.i ≡ c.args.count = omega (arith, c.loop-i-test.false, c.loop-i.invariant.0) in
-    rw e at c.loop-i.invariant.1
+    let e : c.loop-i.i ≡ c.args.count = omega (arith, c.loop-i-test.false) in
+    rw e at c.loop-i.invariant.0

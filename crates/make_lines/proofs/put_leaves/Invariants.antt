@@ -1,5 +1,4 @@
 -- The invariant: the lines of the leaves so far are what was put.
-use Prim.Native.Nat.{◌-◌, ◌≤◌}
 use mathlib.Core.Path.{◌≡◌}
 use lib.ListN.{length}
 use Rattle.buffer.specs.Appending.{Appends}
@@ -9,9 +8,5 @@ use Rattle.make_lines.proofs.put_leaves.Given as goal
 
 abbrev pub invariant-loop-i : goal.invariant-loop-i
 invariant-loop-i l =
-    (l.i ≤ l.count)
-    × Appends (below (leaf_line l.number l.iss) l.i) (l.at, l.initial.buf) (l.next, l.buf)
+    Appends (below (leaf_line l.number l.iss) l.i) (l.at, l.initial.buf) (l.next, l.buf)
     × (length l.buf ≡ length l.initial.buf)
-
-abbrev pub decreases-loop-i : goal.decreases-loop-i
-decreases-loop-i l = l.count - l.i

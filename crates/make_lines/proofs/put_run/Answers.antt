@@ -1,7 +1,7 @@
 -- By what may stand before the value, at it and after it.
 use mathlib.Core.Path.{sym, ◌∙◌}
 use native.Mathlib.Omega.{arith}
-use Rattle.buffer.proofs.Appending.{and_then, none}
+use Rattle.buffer.proofs.Appending.{none}
 use Rattle.leaf_values.specs.Values.{may_be}
 use Rattle.make_lines.proofs.Laws.{run_out, run_first, run_within, run_last}
 use Rattle.texts.specs.Pool.{bytes}
@@ -18,7 +18,7 @@ returns-then-not-was c =
     let f = may_be c.args.number c.args.iss c.args.index in
     rw (run_first f c.args.x (sym c.may_be.ensures ∙ c.if-not-may_be.false)
     (sym c.was.ensures ∙ c.if-not-was.true))
-    (and_then c.put_bytes-next.ensures c.put_number.ensures)
+    c.put_end.ensures
 
 pub returns-then-may_be : goal.returns-then-may_be
 returns-then-may_be c =
@@ -33,4 +33,4 @@ returns c =
     let f = may_be c.args.number c.args.iss c.args.index in
     rw (run_last f c.args.x (sym c.may_be.ensures ∙ c.if-not-may_be.false)
     (sym c.was.ensures ∙ c.if-not-was.false) (sym c.may_be-2.ensures ∙ c.if-may_be.false))
-    (and_then c.put_bytes-next-2.ensures c.put_number-2.ensures)
+    c.put_end-2.ensures

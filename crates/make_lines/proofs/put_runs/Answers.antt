@@ -8,21 +8,18 @@ use Rattle.make_lines.specs.Help.{run_part}
 use Rattle.make_lines.proofs.put_runs.Goals as goal
 
 pub loop-x-init : goal.loop-x-init
-loop-x-init c = (omega arith, rw (below_none _) (none (omega arith)), refl)
+loop-x-init c = (rw (below_none _) (none (omega arith)), refl)
 
 pub put_run-next-requires : goal.put_run-next-requires
 put_run-next-requires c = omega (arith, c.loop-x-test.true, c.requires)
 
-pub overflow_add-x : goal.overflow_add-x
-overflow_add-x c = omega (arith, c.loop-x-test.true, c.requires)
-
 pub loop-x-preserved : goal.loop-x-preserved
 loop-x-preserved c =
-    let w = and_then c.loop-x.invariant.1 c.put_run-next.ensures in
+    let w = and_then c.loop-x.invariant.0 c.put_run-next.ensures in
     let part = run_part (may_be c.args.number c.args.iss c.args.index) in
-    (omega (arith, c.loop-x-test.true), rw (below_more part c.loop-x.x) w, same_length w)
+    (rw (below_more part c.loop-x.x) w, same_length w)
 
 pub returns : goal.returns
 returns c =
-    let e : c.loop-x.x ≡ c.args.room = omega (arith, c.loop-x-test.false, c.loop-x.invariant.0) in
-    rw e at c.loop-x.invariant.1
+    let e : c.loop-x.x ≡ c.args.room = omega (arith, c.loop-x-test.false) in
+    rw e at c.loop-x.invariant.0

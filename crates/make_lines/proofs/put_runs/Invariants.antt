@@ -1,5 +1,4 @@
 -- The invariant: the runs of the values so far are what was put.
-use Prim.Native.Nat.{◌-◌, ◌≤◌}
 use mathlib.Core.Path.{◌≡◌}
 use lib.ListN.{length}
 use Rattle.buffer.specs.Appending.{Appends}
@@ -10,9 +9,5 @@ use Rattle.make_lines.proofs.put_runs.Given as goal
 
 abbrev pub invariant-loop-x : goal.invariant-loop-x
 invariant-loop-x l =
-    (l.x ≤ l.room)
-    × Appends (below (run_part (may_be l.number l.iss l.index)) l.x) (l.at, l.initial.buf) (l.next, l.buf)
+    Appends (below (run_part (may_be l.number l.iss l.index)) l.x) (l.at, l.initial.buf) (l.next, l.buf)
     × (length l.buf ≡ length l.initial.buf)
-
-abbrev pub decreases-loop-x : goal.decreases-loop-x
-decreases-loop-x l = l.room - l.x

@@ -7,15 +7,15 @@ use Rattle.make_lines.specs.Help.{set_at, sets_text}
 use Rattle.make_lines.proofs.put_sets.Goals as goal
 
 pub loop-k-init : goal.loop-k-init
-loop-k-init c = (omega arith, rw (below_none _) (none (omega arith)), refl)
+loop-k-init c = (rw (below_none _) (none (omega arith)), refl)
 
 pub loop-k-preserved : goal.loop-k-preserved
 loop-k-preserved c =
-    let w = and_then c.loop-k.invariant.1 c.put_set_at-next.ensures in
-    (omega (arith, c.loop-k-test.true), rw (below_more (set_at c.args.number) c.loop-k.k) w, same_length w)
+    let w = and_then c.loop-k.invariant.0 c.put_set_at-next.ensures in
+    (rw (below_more (set_at c.args.number) c.loop-k.k) w, same_length w)
 
 pub returns : goal.returns
 unfolding sets_text
 returns c =
-    let e : c.loop-k.k ≡ 32 = omega (arith, c.loop-k-test.false, c.loop-k.invariant.0) in
-    rw e at c.loop-k.invariant.1
+    let e : c.loop-k.k ≡ 32 = omega (arith, c.loop-k-test.false) in
+    rw e at c.loop-k.invariant.0

@@ -9,6 +9,3 @@ abbrev pub invariant-loop-i : goal.invariant-loop-i
 invariant-loop-i l =
     first_wide l.number l.iss l.leaves 0 (length l.leaves) ≡ first_wide l.number l.iss l.leaves l.i
     (length l.leaves - l.i)
-
-abbrev pub decreases-loop-i : goal.decreases-loop-i
-decreases-loop-i l = length l.leaves - l.i

@@ -1,7 +1,5 @@
 -- Where the layout has no row, ISS is put in the first place; elsewhere the layout's rows are the leaves' own.
 use Rattle.std.proofs.Common.{◌≡◌, ℕ, ◌<◌, List, [], ◌∷◌, length, take, set, sym, refl, ap, ◌∙◌, arith, length-set, length-take-le}
-use Rattle.texts.specs.Names.{names}
-use Rattle.texts.specs.Pool.{code, index_in}
 use Rattle.records.specs.declared.Row.{Row}
 use Rattle.tables.specs.Shape.{Table}
 use Rattle.tables.specs.Applying.{rows_for}
@@ -55,7 +53,6 @@ module _ (number index iss : ℕ) (at : iss ≡ outcome_of index) (l : Layout)
       (λ e. h (sym long ∙ ap length rows ∙ e)))
 
 pub returns-then-layout-eq0 : goal.returns-then-layout-eq0
-unfolding code index_in names
 returns-then-layout-eq0 c =
     let a = c.args in
     record {
@@ -63,7 +60,9 @@ returns-then-layout-eq0 c =
       long = length-set c.layout_of-layout.result.rows 0 _
           ∙
           (fits a.number a.index c.outcome.result c.outcome.ensures c.layout_of-layout.result c.layout_of-layout.ensures).long;
-      rows = undivided a.number a.index c.outcome.result c.outcome.ensures c.layout_of-layout.result
+      rows =
+          ap (λ (r : Row). take 1 (set c.layout_of-layout.result.rows 0 r)) c.iss_row.ensures
+          ∙ undivided a.number a.index c.outcome.result c.outcome.ensures c.layout_of-layout.result
           c.layout_of-layout.ensures c.if-layout-eq0.true;
     }
 

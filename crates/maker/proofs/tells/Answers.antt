@@ -1,17 +1,13 @@
--- The count is that of the rows at the outcome, and the index that the leaves tell is compared with its own.
-use Rattle.maker.proofs.Choosing.{untold-by, told-by}
+-- The rows are those at the outcome, so that their count and the index that the leaves tell at them are too.
+use Rattle.std.proofs.Common.{eq-eqb, ne_eqb}
+use Rattle.maker.specs.Laid.{tells_at}
 use Rattle.maker.proofs.tells.Goals as goal
 
-pub returns-then-set-leaves : goal.returns-then-set-leaves
-returns-then-set-leaves c =
-    let a = c.args in
-    untold-by a.number a.index c.leaf_rows-set.result c.leaf_rows-set.ensures a.leaves.now c.if-set-leaves.true
+pub returns-then-rows-leaves : goal.returns-then-rows-leaves
+unfolding tells_at
+returns-then-rows-leaves c =
+    rw (← c.leaf_rows-set.ensures.rows, c.index_told.ensures, eq-eqb _ _ c.if-rows-leaves.true)
 
-pub index_told-requires : goal.index_told-requires
-index_told-requires c = record { few = c.leaf_rows-set.ensures.few; many = c.if-set-leaves.false }
-
-pub returns : goal.returns
-returns c =
-    let a = c.args in
-    told-by a.number a.index c.leaf_rows-set.result c.leaf_rows-set.ensures a.leaves.now c.if-set-leaves.false
-    c.index_told.result c.index_told.ensures
+pub returns-else-rows-leaves : goal.returns-else-rows-leaves
+unfolding tells_at
+returns-else-rows-leaves c = rw (← c.leaf_rows-set.ensures.rows, ne_eqb _ _ c.if-rows-leaves.false)

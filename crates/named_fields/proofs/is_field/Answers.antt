@@ -5,8 +5,8 @@ use Rattle.named_fields.proofs.is_field.Goals as goal
 
 pub returns-then-start-at : goal.returns-then-start-at
 unfolding is_field
-returns-then-start-at c = let a = c.args in rw (ne_eqb a.start a.at c.if-start-at.true)
+returns-then-start-at c = let a = c.args in rw (eq-eqb a.start a.at c.if-start-at.true)
 
-pub returns : goal.returns
+pub returns-else-start-at : goal.returns-else-start-at
 unfolding is_field
-returns c = let a = c.args in rw (eq-eqb a.start a.at c.if-start-at.false)
+returns-else-start-at c = let a = c.args in rw (ne_eqb a.start a.at c.if-start-at.false)

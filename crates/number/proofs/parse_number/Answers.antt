@@ -17,11 +17,11 @@ ahead c =
 pub read_digits-requires : goal.read_digits-requires
 read_digits-requires c = (ahead (goal.at.read_digits-requires c).After-take_lead-last).free
 
-pub returns-then-state : goal.returns-then-state
-returns-then-state c =
+pub returns-then-last : goal.returns-then-last
+returns-then-last c =
     c.whole.ensures
     ∙ ahead_whole _ c.take_lead-last.result
-    (ahead (goal.at.returns-then-state c).After-take_lead-last) c.read_digits.ensures
+    (ahead (goal.at.returns-then-last c).After-take_lead-last) c.read_digits.ensures
 
 pub read_digits-requires-2 : goal.read_digits-requires-2
 read_digits-requires-2 c = (ahead (goal.at.read_digits-requires-2 c).After-take_lead-last).free

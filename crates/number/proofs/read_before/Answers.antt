@@ -1,12 +1,10 @@
 -- The invariant says what is left: the state so far, on the bytes up to the first stop, leads to the state of all of
 -- them.
-use Rattle.std.proofs.Common.{sym, refl, ◌∙◌, arith, rules}
+use Rattle.std.proofs.Common.{◌≡◌, length, sym, ◌∙◌, subst, arith, rules}
 use Rattle.number.proofs.Laws.{before-end, before-stop}
 use Rattle.number.proofs.Stops.{steps_ended, steps_more}
+use Rattle.number.specs.Steps.{StepsTo}
 use Rattle.number.proofs.read_before.Goals as goal
-
-pub loop-at-init : goal.loop-at-init
-loop-at-init c = rw c.start-state.ensures (refl, omega arith)
 
 pub returns-then-is_stop : goal.returns-then-is_stop
 returns-then-is_stop c =
@@ -23,4 +21,6 @@ loop-at-preserved c =
 pub returns : goal.returns
 returns c =
     let s = c.args.s.now in
-    steps_ended s c.loop-at.state c.loop-at.at c.loop-at.invariant (before-end s c.loop-at.at (omega arith))
+    let end : c.loop-at.at ≡ length s = omega arith in
+    subst (λ k. StepsTo s (record { state = c.loop-at.state; at = k })) end
+    (steps_ended s c.loop-at.state c.loop-at.at c.loop-at.invariant (before-end s c.loop-at.at (omega arith)))

@@ -1,27 +1,19 @@
 -- By which of the two sheets has the code.
-use mathlib.Core.Bool.{Bool}
-use mathlib.Core.Path.{◌≡◌, sym, ap, ◌∙◌}
-use Rattle.phrases.specs.Sheets.{in_sheet}
-use Rattle.phrases.specs.declared.Place.{Place}
-use Rattle.phrases.proofs.Cases.{find_first, find_second, find_neither}
+use mathlib.Core.Path.{sym, ap, ◌∙◌}
+use Rattle.std.specs.Prelude.{Some}
+use Rattle.phrases.specs.Sheets.{find_in}
 use Rattle.phrases.proofs.find.Goals as goal
 
--- whether one sheet has it, by what was looked up there
-told : {a b : Place} {t : Bool} → a ≡ b → a.found ≡ t → b.found ≡ t
-told e h = sym (ap (λ (p : Place). p.found) e) ∙ h
+pub returns-in-Some : goal.returns-in-Some
+unfolding find_in
+returns-in-Some c = rw (sym c.look.ensures ∙ c.in-Some.is) (ap Some c.of.ensures)
 
-pub returns-then-first : goal.returns-then-first
-returns-then-first c = let l = c.look-first.ensures in ap (in_sheet 1) l ∙ sym
-    (find_first _ _ _ (told l c.if-first.true))
-
-pub returns-then-second : goal.returns-then-second
-returns-then-second c =
-    let l = c.look-first.ensures in
-    let m = c.look-second.ensures in
-    ap (in_sheet 2) m ∙ sym (find_second _ _ _ (told l c.if-first.false) (told m c.if-second.true))
+pub returns-in_err-place : goal.returns-in_err-place
+unfolding find_in
+returns-in_err-place c =
+    rw (sym c.look.ensures ∙ c.in_default.is, sym c.look-2.ensures ∙ c.in_err-place.was) c.from_residual.ensures
 
 pub returns : goal.returns
+unfolding find_in
 returns c =
-    let l = c.look-first.ensures in
-    let m = c.look-second.ensures in
-    sym (find_neither _ _ _ (told l c.if-first.false) (told m c.if-second.false))
+    rw (sym c.look.ensures ∙ c.in_default.is, sym c.look-2.ensures ∙ c.in_ok-place.was) (ap Some c.of-2.ensures)

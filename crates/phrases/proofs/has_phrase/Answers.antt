@@ -1,24 +1,16 @@
 -- By whether the sheets are refused; past that the code is found in one of them or not.
-use mathlib.Core.Path.{ap, ◌∙◌}
-use Rattle.phrases.specs.Sheets.{has_phrase, judged_both}
-use Rattle.refusals.specs.Refusals.{bare, refusal_number}
-use Rattle.refusals.proofs.Cases.{passed_yes, passed_no}
+use Rattle.phrases.specs.Sheets.{has_phrase}
+use Rattle.phrases.proofs.Cases.{sound_by, unsound-by}
 use Rattle.phrases.proofs.has_phrase.Goals as goal
 
-pub returns-then-number-ne0 : goal.returns-then-number-ne0
+pub returns-then-not-is_refused : goal.returns-then-not-is_refused
 unfolding has_phrase
-returns-then-number-ne0 c =
-    let r = c.sheets_refusal-refusal.ensures in
-    let a = c.args in
-    let no = passed_no (bare (judged_both a.workshop.now a.standard.now))
-    (c.number.ensures ∙ ap refusal_number r) c.if-number-ne0.true in
-    rw no
+returns-then-not-is_refused c =
+    rw (sound_by c.sheets_refusal.ensures c.is_refused.ensures c.if-not-is_refused.true, ← c.find.ensures)
+    c.is_some.ensures
 
-pub returns : goal.returns
+pub returns-else-not-is_refused : goal.returns-else-not-is_refused
 unfolding has_phrase
-returns c =
-    let r = c.sheets_refusal-refusal.ensures in
-    let a = c.args in
-    let yes = passed_yes (bare (judged_both a.workshop.now a.standard.now))
-    (c.number.ensures ∙ ap refusal_number r) c.if-number-ne0.false in
-    rw (yes, ← c.find-found.ensures)
+returns-else-not-is_refused c =
+    let refused = c.if-not-is_refused.false in
+    rw (refused, unsound-by c.sheets_refusal.ensures c.is_refused.ensures refused)

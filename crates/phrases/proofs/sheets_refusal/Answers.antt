@@ -1,16 +1,15 @@
 -- By whether the workshop's sheet is refused.
-use mathlib.Core.Path.{sym, ap, ◌∙◌}
-use Rattle.refusals.specs.Refusals.{bare, refusal_number}
-use Rattle.phrases.proofs.Cases.{both_first, both-second}
+use Rattle.phrases.specs.Sheets.{judged_both}
+use Rattle.phrases.proofs.Cases.{sound_by, unsound-by}
 use Rattle.phrases.proofs.sheets_refusal.Goals as goal
 
-pub returns-then-number-ne0 : goal.returns-then-number-ne0
-returns-then-number-ne0 c =
+pub returns-then-is_refused : goal.returns-then-is_refused
+unfolding judged_both
+returns-then-is_refused c =
     let r = c.sheet_refusal-refusal.ensures in
-    let number = c.number.ensures ∙ ap refusal_number r in
-    r ∙ sym (ap bare (both_first _ _ (λ e. c.if-number-ne0.true (number ∙ e))))
+    rw (unsound-by r c.is_refused.ensures c.if-is_refused.true) r
 
 pub returns : goal.returns
+unfolding judged_both
 returns c =
-    let number = c.number.ensures ∙ ap refusal_number c.sheet_refusal-refusal.ensures in
-    c.sheet_refusal.ensures ∙ sym (ap bare (both-second _ _ (sym number ∙ c.if-number-ne0.false)))
+    rw (sound_by c.sheet_refusal-refusal.ensures c.is_refused.ensures c.if-is_refused.false) c.sheet_refusal.ensures

@@ -9,19 +9,19 @@ pub returns-then-count-le5 : goal.returns-then-count-le5
 returns-then-count-le5 c =
     let items : List Record = c.args.records.items in
     let long : length items ≡ 19 = search (rules, long_as) in
-    few-sum c.args.records c.held-count.result long c.held-count.ensures
+    few-sum c.args.records c.min-count.result long c.min-count.ensures
     c.sum_of.result c.if-count-le5.true c.sum_of.ensures
 
 pub sum_of-own-requires : goal.sum_of-own-requires
 sum_of-own-requires c =
     let items : List Record = c.args.records.items in
     let long : length items ≡ 19 = search (rules, long_as) in
-    (omega arith, within c.args.records c.held-count.result long c.held-count.ensures)
+    (omega arith, within c.args.records c.min-count.result long c.min-count.ensures)
 
 pub returns : goal.returns
 returns c =
     let items : List Record = c.args.records.items in
     let long : length items ≡ 19 = search (rules, long_as) in
-    many-sum c.args.records c.held-count.result long
-    c.held-count.ensures c.sum_of-top.result c.sum_of-own.result c.wrapping_add_u64.result
+    many-sum c.args.records c.min-count.result long
+    c.min-count.ensures c.sum_of-top.result c.sum_of-own.result c.wrapping_add_u64.result
     c.if-count-le5.false c.sum_of-top.ensures c.sum_of-own.ensures c.wrapping_add_u64.ensures.value

@@ -8,7 +8,6 @@ use Rattle.reading.proofs.sum_of.Goals as goal
 
 pub loop-i-init : goal.loop-i-init
 loop-i-init c = (
-  omega arith,
   ap (λ (n : ℕ). n % 2 ^ 64) (sym
       (zero-add (added_up (drop c.args.from (take c.args.to c.args.records.items))))),
   pow_pos 64,
@@ -18,8 +17,7 @@ pub loop-i-preserved : goal.loop-i-preserved
 loop-i-preserved c =
     let items : List Record = c.args.records.items in
     let long : length items ≡ 19 = search (rules, long_as) in (
-      omega arith,
-      c.loop-i.invariant.1
+      c.loop-i.invariant.0
           ∙ sum_more items c.args.to c.loop-i.i c.loop-i.sum
           c.shifted_back.result c.wrapping_add_u64-sum.result (omega arith) (omega (arith, c.requires))
           c.shifted_back.ensures c.wrapping_add_u64-sum.ensures.value,
@@ -31,5 +29,5 @@ returns c =
     let items : List Record = c.args.records.items in
     let long : length items ≡ 19 = search (rules, long_as) in
     sym
-    (c.loop-i.invariant.1
-    ∙ sum_done items c.args.to c.loop-i.i c.loop-i.sum (omega arith) (omega (arith, c.requires)) c.loop-i.invariant.2)
+    (c.loop-i.invariant.0
+    ∙ sum_done items c.args.to c.loop-i.i c.loop-i.sum (omega arith) (omega (arith, c.requires)) c.loop-i.invariant.1)

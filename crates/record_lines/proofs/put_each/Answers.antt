@@ -11,16 +11,15 @@ use mathlib.Core.Path.{refl}
 use native.Mathlib.Omega.{arith}
 use Rattle.record_lines.proofs.put_each.Goals as goal
 
-pub loop-i-init : goal.loop-i-init
-loop-i-init c = (omega arith, rw (no_items byte_text) (none (omega arith)), refl)
+pub loop-b-init : goal.loop-b-init
+loop-b-init c = (rw (no_items byte_text) (none (omega arith)), refl)
 
-pub loop-i-preserved : goal.loop-i-preserved
+pub loop-b-preserved : goal.loop-b-preserved
 unfolding byte_text bytes
-loop-i-preserved c =
+loop-b-preserved c =
     let body = c.args.body.now in
-    let within : c.loop-i.i < length body = omega arith in (
-      omega arith,
-      rw (one_more byte_text body c.loop-i.i 0 within) (and_then c.loop-i.invariant.1
+    let within : c.loop-b.b-index < length body = omega arith in (
+      rw (one_more byte_text body c.loop-b.b-index 0 within) (and_then c.loop-b.invariant.0
           (and_then c.put_bytes-next.ensures c.put_digits-next.ensures)),
       omega arith,
     )
@@ -28,5 +27,5 @@ loop-i-preserved c =
 pub returns : goal.returns
 returns c =
     let body = c.args.body.now in
-    let all = take_all c.loop-i.i body (omega arith) in
-    rw all at c.loop-i.invariant.1
+    let all = take_all c.loop-b.b-index body (omega arith) in
+    rw all at c.loop-b.invariant.0

@@ -1,5 +1,4 @@
 -- The invariant: the bytes so far are what is put.
-use Prim.Native.Nat.{◌-◌, ◌≤◌}
 use Rattle.buffer.specs.Appending.{Appends}
 use Rattle.buffer.specs.InOrder.{in_order}
 use Rattle.record_lines.specs.Lines.{byte_text}
@@ -7,10 +6,7 @@ use lib.ListN.{length, take}
 use mathlib.Core.Path.{◌≡◌}
 use Rattle.record_lines.proofs.put_each.Given as goal
 
-abbrev pub invariant-loop-i : goal.invariant-loop-i
-invariant-loop-i l = (l.i ≤ length l.body)
-    × Appends (in_order byte_text (take l.i l.body)) (l.at, l.initial.buf) (l.next, l.buf)
+abbrev pub invariant-loop-b : goal.invariant-loop-b
+invariant-loop-b l =
+    Appends (in_order byte_text (take l.b-index l.body)) (l.at, l.initial.buf) (l.next, l.buf)
     × (length l.buf ≡ length l.initial.buf)
-
-abbrev pub decreases-loop-i : goal.decreases-loop-i
-decreases-loop-i l = length l.body - l.i

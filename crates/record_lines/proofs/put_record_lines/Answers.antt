@@ -2,11 +2,11 @@
 -- not.
 use borrow.Author.Rules.{rules}
 use Rattle.buffer.proofs.Appending.{and_then}
-use Prim.Native.Nat.{◌<◌}
-use mathlib.Core.Path.{◌≡◌, refl, sym, ◌∙◌}
+use Prim.Native.Nat.{ℕ, ◌<◌}
+use mathlib.Core.Path.{◌≡◌, refl, ap, ◌∙◌}
 use native.Mathlib.Omega.{arith}
 use lib.ListN.{length, take}
-use lib.Seq.{take_all}
+use Rattle.std.proofs.lemmas.List.{take_min}
 use Rattle.buffer.proofs.Appending.{none}
 use Rattle.buffer.proofs.InOrder.{one_more, no_items}
 use Rattle.record_lines.specs.Lines.{record_line}
@@ -14,18 +14,8 @@ use Rattle.records.proofs.Laws.{long_as}
 use Rattle.records.specs.Sets.{no_record}
 use Rattle.record_lines.proofs.put_record_lines.Goals as goal
 
--- past the room there are no more items
-pub returns-then-i-ge-MAX : goal.returns-then-i-ge-MAX
-returns-then-i-ge-MAX c =
-    let l = c.loop-i in
-    let records = c.args.records in
-    let n : length records.items ≡ 19 = search (rules, long_as) in
-    let all : take l.i records.items ≡ take records.count records.items =
-    take_all l.i records.items (omega arith) ∙ sym (take_all records.count records.items (omega arith)) in
-    rw (← all) l.invariant.1
-
 pub loop-i-init : goal.loop-i-init
-loop-i-init c = (omega arith, rw (no_items record_line) (none (omega arith)), refl)
+loop-i-init c = (rw (no_items record_line) (none (omega arith)), refl)
 
 pub put_record-next-requires : goal.put_record-next-requires
 put_record-next-requires c = record { whole = c.pool_bytes-pool.ensures; each = c.text_starts-starts.ensures }
@@ -35,13 +25,17 @@ loop-i-preserved c =
     let items = c.args.records.items in
     let long : length items ≡ 19 = search (rules, long_as) in
     let within : c.loop-i.i < length items = omega arith in (
-      omega arith,
       rw (one_more record_line items c.loop-i.i no_record within)
-          (and_then c.loop-i.invariant.1 c.put_record-next.ensures),
+          (and_then c.loop-i.invariant.0 c.put_record-next.ensures),
       omega arith,
     )
 
+-- past the room there are no more items
 pub returns : goal.returns
 returns c =
-    let e : c.loop-i.i ≡ c.args.records.count = omega arith in
-    rw (← e) c.loop-i.invariant.1
+    let l = c.loop-i in
+    let records = c.args.records in
+    let long : length records.items ≡ 19 = search (rules, long_as) in
+    let all : take l.i records.items ≡ take records.count records.items =
+    ap (λ (k : ℕ). take k records.items) (omega arith) ∙ take_min records.count records.items in
+    rw (← all) l.invariant.0

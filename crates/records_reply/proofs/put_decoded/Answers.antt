@@ -1,17 +1,17 @@
 -- By whether the value is refused.
-use Rattle.refusals.proofs.Cases.{passed_yes, passed_no}
+use Rattle.refusals.proofs.Cases.{passed-is, refused-is}
 use Rattle.records_reply.specs.Replies.{decoded}
 use mathlib.Core.Path.{◌≡◌}
 use Rattle.strict.specs.Strict.{answer_by}
 use Rattle.records_reply.proofs.put_decoded.Goals as goal
 
-pub returns-then-number-ne0 : goal.returns-then-number-ne0
+pub returns-then-is_refused : goal.returns-then-is_refused
 unfolding decoded
-returns-then-number-ne0 c =
+returns-then-is_refused c =
     let a = c.args in
     let d = c.decode_by-answer in
     let is : d.result ≡ answer_by a.profile a.esr = d.ensures in
-    rw (← is, passed_no d.result.refusal c.number.ensures c.if-number-ne0.true) c.put_carried.ensures
+    rw (← is, refused-is d.result.refusal c.is_refused.ensures c.if-is_refused.true) c.put_carried.ensures
 
 pub returns : goal.returns
 unfolding decoded
@@ -19,4 +19,4 @@ returns c =
     let a = c.args in
     let d = c.decode_by-answer in
     let is : d.result ≡ answer_by a.profile a.esr = d.ensures in
-    rw (← is, passed_yes d.result.refusal c.number.ensures c.if-number-ne0.false) c.put_record_lines.ensures
+    rw (← is, passed-is d.result.refusal c.is_refused.ensures c.if-is_refused.false) c.put_record_lines.ensures

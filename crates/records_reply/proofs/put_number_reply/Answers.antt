@@ -1,17 +1,17 @@
 -- By whether the number is refused.
-use Rattle.refusals.proofs.Cases.{passed_yes, passed_no}
+use Rattle.refusals.proofs.Cases.{passed-is, refused-is}
 use Rattle.records_reply.specs.Replies.{number_reply}
 use Rattle.texts.specs.Pool.{bytes}
 use Rattle.records_reply.proofs.put_number_reply.Goals as goal
 
-pub returns-then-reason-ne0 : goal.returns-then-reason-ne0
+pub returns-then-is_refused : goal.returns-then-is_refused
 unfolding number_reply bytes
-returns-then-reason-ne0 c =
+returns-then-is_refused c =
     let f = c.args.number.refusal in
-    rw (passed_no f c.number-reason.ensures c.if-reason-ne0.true, ← c.number-reason.ensures) c.put_number_line.ensures
+    rw (refused-is f c.is_refused.ensures c.if-is_refused.true, ← c.number.ensures) c.put_number_line.ensures
 
 pub returns : goal.returns
 unfolding number_reply bytes
 returns c =
     let f = c.args.number.refusal in
-    rw (passed_yes f c.number-reason.ensures c.if-reason-ne0.false) c.put_number_line-2.ensures
+    rw (passed-is f c.is_refused.ensures c.if-is_refused.false) c.put_number_line-2.ensures

@@ -10,7 +10,8 @@ use Rattle.sheet_lines.proofs.put_code_line.Goals as goal
 pub returns-then-not-is_records : goal.returns-then-not-is_records
 returns-then-not-is_records c =
     let a = c.args in
-    rw (no_line a.code (sym c.is_records.ensures ∙ c.if-not-is_records.true)) (none (omega arith))
+    let there = rw c.from-number.ensures at c.is_records.ensures in
+    rw (no_line a.code (sym there ∙ c.if-not-is_records.true)) (none (omega arith))
 
 pub returns : goal.returns
 unfolding bytes
@@ -18,5 +19,7 @@ returns c =
     let a = c.args in
     let own = lent-text a.code (record { whole = c.pool_bytes-pool.ensures; each = c.text_starts-starts.ensures }) in
     let text = rw own at c.put_text-c.ensures in
-    rw (a-line a.code (sym c.is_records.ensures ∙ c.if-not-is_records.false))
-    (and_then c.put_number-a.ensures (and_then c.put_bytes-b.ensures (and_then text c.put_bytes.ensures)))
+    let there = rw c.from-number.ensures at c.is_records.ensures in
+    let number = rw c.from-number.ensures at c.put_number-a.ensures in
+    rw (a-line a.code (sym there ∙ c.if-not-is_records.false))
+    (and_then number (and_then c.put_bytes-b.ensures (and_then text c.put_bytes.ensures)))

@@ -1,22 +1,24 @@
--- By whether the line is refused.
-use mathlib.Core.Path.{sym, ◌∙◌}
-use native.Mathlib.Omega.{arith}
-use Rattle.buffer.proofs.Appending.{none}
-use Rattle.sheet_reply.proofs.Laws.{taken-sound, adds-fault, adds-phrase, added}
+-- Past the `?` the line was taken, and its phrase is put.
+use Prim.Native.Nat.{◌+◌}
+use mathlib.Core.Path.{◌≡◌, ap, ◌∙◌}
+use Rattle.sheet_lines.specs.Lines.{taken_of}
+use Rattle.sheet_lines.specs.declared.Fault.{Fault}
+use Rattle.sheet_lines.specs.declared.Taken.{Taken}
+use Rattle.std.specs.Prelude.{Result, Ok}
+use Rattle.sheet_reply.proofs.Laws.{taken-sound, added}
+use Rattle.sheet_reply.specs.Replies.{adds, added_of}
 use Rattle.sheet_reply.proofs.add_line.Goals as goal
-
-pub returns-then-is_fault : goal.returns-then-is_fault
-returns-then-is_fault c =
-    let refused = sym c.is_fault.ensures ∙ c.if-is_fault.true in
-    rw (← c.take_line-taken.ensures, adds-fault _ _ c.take_line-taken.result refused) (added (none (omega arith)))
 
 pub put_phrase-next-requires : goal.put_phrase-next-requires
 put_phrase-next-requires c =
-    let is = c.take_line-taken.ensures in
-    rw is (taken-sound _ _ (rw (← is) (sym c.is_fault.ensures ∙ c.if-is_fault.false)))
+    let a = c.args in
+    let is : Ok c.in_ok-taken.taken ≡ taken_of a.line.now a.least = c.in_ok-taken.ensures in
+    taken-sound a.line.now a.least is
 
 pub returns : goal.returns
 returns c =
-    let taken = sym c.is_fault.ensures ∙ c.if-is_fault.false in
-    rw (← c.take_line-taken.ensures, adds-phrase _ _ c.take_line-taken.result taken)
-    (added c.put_phrase-next.ensures)
+    let a = c.args in
+    let is : Ok c.in_ok-taken.taken ≡ taken_of a.line.now a.least = c.in_ok-taken.ensures in
+    rw c.from.ensures
+    (added (c.in_ok-taken.taken.code + 1) c.put_phrase-next.ensures
+    ∙ ap (λ (r : Result Taken Fault). added_of (adds a.line.now r) (a.at, a.buf.now)) is)

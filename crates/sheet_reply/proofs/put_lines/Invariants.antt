@@ -1,6 +1,6 @@
 -- The invariant: the lines of the codes so far are what was put.
 use mathlib.Core.Path.{◌≡◌}
-use Prim.Native.Nat.{◌-◌, ◌≤◌}
+use Prim.Native.Nat.{◌-◌}
 use lib.ListN.{length}
 use Rattle.buffer.specs.Appending.{Appends}
 use Rattle.sheet_reply.specs.Replies.{lines_at}
@@ -8,9 +8,5 @@ use Rattle.sheet_reply.proofs.put_lines.Given as goal
 
 abbrev pub invariant-loop-code : goal.invariant-loop-code
 invariant-loop-code l =
-    (128 ≤ l.code) × (l.code ≤ 597)
-    × Appends (lines_at 128 (l.code - 128)) (l.at, l.initial.buf) (l.next, l.buf)
+    Appends (lines_at 128 (l.code - 128)) (l.at, l.initial.buf) (l.next, l.buf)
     × (length l.buf ≡ length l.initial.buf)
-
-abbrev pub decreases-loop-code : goal.decreases-loop-code
-decreases-loop-code l = 597 - l.code

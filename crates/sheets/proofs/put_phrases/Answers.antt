@@ -7,7 +7,7 @@ use Rattle.sheets.proofs.Laws.{one_more, none_yet, codes}
 use Rattle.sheets.proofs.put_phrases.Goals as goal
 
 pub loop-code-init : goal.loop-code-init
-loop-code-init c = (omega arith, omega arith, rw (none_yet 128) (none (omega arith)), refl)
+loop-code-init c = (rw (none_yet 128) (none (omega arith)), refl)
 
 pub put_phrase-next-requires : goal.put_phrase-next-requires
 put_phrase-next-requires c = (c.requires, omega arith)
@@ -15,12 +15,12 @@ put_phrase-next-requires c = (c.requires, omega arith)
 pub loop-code-preserved : goal.loop-code-preserved
 loop-code-preserved c =
     let l = c.loop-code in
-    let w = and_then l.invariant.2 c.put_phrase-next.ensures in
-    (omega arith, omega arith, rw (one_more l.code 128 (omega arith)) w, same_length w ∙ refl)
+    let w = and_then l.invariant.0 c.put_phrase-next.ensures in
+    (rw (one_more l.code 128 (omega arith)) w, same_length w ∙ refl)
 
 pub returns : goal.returns
 unfolding standard_phrases
 returns c =
     let l = c.loop-code in
     let e : l.code ≡ 597 = omega arith in
-    rw codes (rw e at l.invariant.2)
+    rw codes (rw e at l.invariant.0)

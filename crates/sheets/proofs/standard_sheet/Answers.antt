@@ -3,20 +3,11 @@ use mathlib.Core.Path.{refl}
 use native.Mathlib.Omega.{arith}
 use Rattle.buffer.proofs.Appending.{measured}
 use Rattle.sheets.proofs.Laws.{phrases_fit, sheet-small}
-use Rattle.written.proofs.Kept.{by_shortness, by_writing}
+use Rattle.written.proofs.Kept.{exit, by_shortness, by_writing}
 use Rattle.sheets.proofs.standard_sheet.Goals as goal
 
 pub put_phrases-count-requires : goal.put_phrases-count-requires
 put_phrases-count-requires c = record { whole = c.pool_bytes-pool.ensures; each = c.text_starts-starts.ensures }
-
-pub put_sheet-bytes-requires : goal.put_sheet-bytes-requires
-put_sheet-bytes-requires c = (
-  record { whole = c.pool_bytes-pool.ensures; each = c.text_starts-starts.ensures },
-  measured c.put_phrases-count.ensures (omega (arith, phrases_fit)),
-)
-
-pub returns-then-buf-bytes : goal.returns-then-buf-bytes
-returns-then-buf-bytes c = by_shortness refl sheet-small c.put_sheet-bytes.ensures c.if-buf-bytes.true c.refused.ensures
 
 pub put_sheet-requires : goal.put_sheet-requires
 put_sheet-requires c = (
@@ -24,6 +15,17 @@ put_sheet-requires c = (
   measured c.put_phrases-count.ensures (omega (arith, phrases_fit)),
 )
 
+pub returns-in_err-bytes : goal.returns-in_err-bytes
+returns-in_err-bytes c =
+    by_shortness refl sheet-small c.put_sheet.ensures c.room_for.ensures c.in_err-bytes.was
+    (exit c.from_residual.ensures)
+
+pub put_sheet-requires-2 : goal.put_sheet-requires-2
+put_sheet-requires-2 c = (
+  record { whole = c.pool_bytes-pool.ensures; each = c.text_starts-starts.ensures },
+  measured c.put_phrases-count.ensures (omega (arith, phrases_fit)),
+)
+
 pub returns : goal.returns
 returns c =
-    by_writing refl sheet-small c.put_sheet-bytes.ensures c.if-buf-bytes.false c.put_sheet.ensures refl
+    by_writing refl sheet-small c.put_sheet.ensures c.room_for.ensures c.in_ok-bytes.was c.put_sheet-2.ensures refl

@@ -1,16 +1,12 @@
 -- After each value the tables hold the counts of the values up to it, and with those that are left the whole counts.
-use Prim.Native.Nat.{◌-◌, ◌≤◌}
 use mathlib.Core.Path.{◌≡◌}
 use lib.ListN.{length}
 use Rattle.survey.specs.Surveys.{is_of_class, is_refused_at}
 use Rattle.survey.proofs.Laws.{Counted}
 use Rattle.survey.proofs.note_all.Given as goal
 
-abbrev pub invariant-loop-i : goal.invariant-loop-i
-invariant-loop-i l =
-    (length l.counts ≡ 64) × (length l.refused ≡ 9) × (l.i ≤ length l.values)
-    × Counted (is_of_class l.profile) l.values l.counts l.i
-    × Counted (is_refused_at l.profile) l.values l.refused l.i
-
-abbrev pub decreases-loop-i : goal.decreases-loop-i
-decreases-loop-i l = length l.values - l.i
+abbrev pub invariant-loop-value : goal.invariant-loop-value
+invariant-loop-value l =
+    (length l.counts ≡ 64) × (length l.refused ≡ 9)
+    × Counted (is_of_class l.profile) l.values l.counts l.value-index
+    × Counted (is_refused_at l.profile) l.values l.refused l.value-index

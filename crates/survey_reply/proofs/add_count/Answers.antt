@@ -1,26 +1,32 @@
 -- By whether there is such a place, and whether the sum has 64 bits.
-use mathlib.Core.Path.{sym}
+use Prim.Native.Nat.{ℕ, ◌+◌}
+use mathlib.Core.Bool.{true}
+use mathlib.Core.Path.{◌≡◌, sym, ap, ◌∙◌}
 use native.Mathlib.Omega.{arith}
+use lib.ListN.{get_or, length, set}
+use borrow.Author.Tests.{ltb-false, ltb-true}
 use Rattle.survey_reply.proofs.Laws.{no_place, the_sum, too_large}
-use borrow.Author.Rules.{rules}
 use Rattle.survey_reply.proofs.add_count.Goals as goal
 
-pub returns-then-totals-place : goal.returns-then-totals-place
-returns-then-totals-place c = let a = c.args in sym (no_place a.totals.now a.place a.count c.if-totals-place.true)
-
-pub overflow_sub-totals : goal.overflow_sub-totals
-overflow_sub-totals c = omega (arith, c.type_inv.totals c.args.place)
-
-pub returns-then-totals-place-2 : goal.returns-then-totals-place-2
-returns-then-totals-place-2 c =
+pub returns-in_default : goal.returns-in_default
+returns-in_default c =
     let a = c.args in
-    sym (too_large a.totals.now a.place a.count (search rules)
-    (omega (arith, c.if-totals-place-2.true, c.type_inv.totals a.place)))
+    sym (no_place a.totals.now a.place a.count
+    (ltb-false a.place (length a.totals.now) (sym c.in_default.ensures.lookup.0)))
 
-pub overflow_add-totals : goal.overflow_add-totals
-overflow_add-totals c = let a = c.args in omega (arith, c.if-totals-place-2.false)
+pub returns-in_default-checked_add : goal.returns-in_default-checked_add
+returns-in_default-checked_add c =
+    let a = c.args in
+    let total = c.in-Some.ensures.lookup in
+    sym (too_large a.totals.now a.place a.count (ltb-true a.place (length a.totals.now) (sym total.0))
+    (omega (arith, c.in_default-checked_add.ensures, total.1)))
 
 pub returns : goal.returns
 returns c =
     let a = c.args in
-    sym (the_sum a.totals.now a.place a.count (search rules) (omega (arith, c.if-totals-place-2.false)))
+    let total = c.in-Some.ensures.lookup in
+    let sum = c.in-Some-checked_add.ensures in
+    let is : c.in-Some-checked_add.sum ≡ get_or a.totals.now a.place 0 + a.count = omega (arith, sum.1, total.1) in
+    ap (λ (n : ℕ). (true, set a.totals.now a.place n)) is
+    ∙ sym (the_sum a.totals.now a.place a.count (ltb-true a.place (length a.totals.now) (sym total.0))
+    (omega (arith, sum.0, total.1)))

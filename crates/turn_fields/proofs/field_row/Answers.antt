@@ -1,5 +1,6 @@
 -- By the index: one of the three, or a leaf of ISS.
 use mathlib.Core.Path.{sym, ap, ap₂, ◌∙◌}
+use native.Mathlib.Omega.{arith}
 use Prim.Native.Nat.{ℕ, ◌-◌}
 use lib.ListN.{get_or}
 use Rattle.layouts.specs.Layouts.{layout_number, pad}
@@ -11,28 +12,22 @@ use Rattle.turn_fields.specs.Fields.{fields_of}
 use Rattle.turn_fields.proofs.Laws.{own_row}
 use Rattle.turn_fields.proofs.field_row.Goals as goal
 
-pub returns-then-index-eq0 : goal.returns-then-index-eq0
+pub returns-in-0 : goal.returns-in-0
 unfolding fields_of top_rows code index_in names
-returns-then-index-eq0 c =
-    let a = c.args in
-    ap (λ (i : ℕ). get_or (fields_of a.esr) i pad) (sym c.if-index-eq0.true)
+returns-in-0 c = ap (λ (i : ℕ). get_or (fields_of c.args.esr) i pad) (sym c.in-0.is)
 
-pub returns-then-index-eq1 : goal.returns-then-index-eq1
+pub returns-in-1 : goal.returns-in-1
 unfolding fields_of top_rows code index_in names
-returns-then-index-eq1 c =
-    let a = c.args in
-    ap (λ (i : ℕ). get_or (fields_of a.esr) i pad) (sym c.if-index-eq1.true)
+returns-in-1 c = ap (λ (i : ℕ). get_or (fields_of c.args.esr) i pad) (sym c.in-1.is)
 
-pub returns-then-index-eq2 : goal.returns-then-index-eq2
+pub returns-in-2 : goal.returns-in-2
 unfolding fields_of top_rows code index_in names
-returns-then-index-eq2 c =
-    let a = c.args in
-    ap (λ (i : ℕ). get_or (fields_of a.esr) i pad) (sym c.if-index-eq2.true)
+returns-in-2 c = ap (λ (i : ℕ). get_or (fields_of c.args.esr) i pad) (sym c.in-2.is)
 
-pub returns : goal.returns
-returns c =
+pub returns-in_default : goal.returns-in_default
+returns-in_default c =
     let a = c.args in
     c.leaf_row.ensures
     ∙ ap₂ (λ (m i : ℕ). leaf_row m i (a.index - 3))
-    (c.layout_number-number.ensures ∙ ap layout_number c.field.ensures) c.field-2.ensures
-    ∙ own_row a.esr a.index c.if-index-eq0.false c.if-index-eq1.false c.if-index-eq2.false
+    (c.layout_number-number.ensures ∙ ap layout_number c.field.ensures) c.field-in_default.ensures
+    ∙ own_row a.esr a.index (λ e. omega (arith, e)) (λ e. omega (arith, e)) (λ e. omega (arith, e))

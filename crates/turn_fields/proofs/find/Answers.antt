@@ -1,19 +1,23 @@
 -- By its name; else by the number that it is.
-use Rattle.refusals.proofs.Cases.{passed_yes, passed_no}
-use Rattle.turn_fields.proofs.Laws.{named-so, no_number, at-bit}
+use mathlib.Core.List.{List}
+use mathlib.Core.Path.{◌≡◌, refl, ap, ◌∙◌}
+use Prim.Native.Nat.{ℕ}
+use Rattle.turn_fields.specs.declared.Found.{Found}
+use Rattle.turn_fields.specs.declared.Found.TheVariants.{Nowhere, Once, Several}
+use Rattle.turn_fields.specs.Fields.{or_bit, place_of}
 use Rattle.turn_fields.proofs.find.Goals as goal
 
-pub returns-then-so-ne0 : goal.returns-then-so-ne0
-returns-then-so-ne0 c = named-so c.args.esr c.args.word.now c.seek-so.result c.seek-so.ensures c.if-so-ne0.true
+named : (v : ℕ) (word : List ℕ) (found : Found) → (found ≡ Nowhere → ⊥) → found ≡ or_bit v word found
+named v word Nowhere h = absurd (h refl)
+named v word (Once i) h = refl
+named v word (Several p) h = refl
 
-pub returns-then-number-ne0 : goal.returns-then-number-ne0
-returns-then-number-ne0 c =
-    no_number c.args.esr c.args.word.now c.seek-so.result c.seek-so.ensures c.if-so-ne0.false
-    c.parse_number-number.result c.parse_number-number.ensures
-    (passed_no c.parse_number-number.result.refusal c.number.ensures c.if-number-ne0.true)
+pub returns-in-Nowhere : goal.returns-in-Nowhere
+unfolding place_of
+returns-in-Nowhere c = c.by_bit.ensures ∙ ap (or_bit c.args.esr c.args.word.now) c.in-Nowhere.ensures
 
-pub returns : goal.returns
-returns c =
-    at-bit c.args.esr c.args.word.now c.seek-so.result c.seek-so.ensures c.if-so-ne0.false
-    c.parse_number-number.result c.parse_number-number.ensures
-    (passed_yes c.parse_number-number.result.refusal c.number.ensures c.if-number-ne0.false) c.seek.ensures
+pub returns-in_default : goal.returns-in_default
+unfolding place_of
+returns-in_default c =
+    let a = c.args in
+    named a.esr a.word.now c.seek.result c.in_default.not-Nowhere ∙ ap (or_bit a.esr a.word.now) c.seek.ensures

@@ -1,15 +1,12 @@
 -- The invariant says what is left: the search goes on from an index with what was found so far.
-use Prim.Native.Nat.{◌-◌, ◌≤◌}
+use Prim.Native.Nat.{◌≤◌}
 use mathlib.Core.Path.{◌≡◌}
 use lib.ListN.{drop}
-use Rattle.turn_fields.specs.Fields.{fields_of, means_by, seek_from, seek_in}
+use Rattle.turn_fields.specs.Fields.{count_of, fields_of, means_by, seek_from, seek_in}
 use Rattle.turn_fields.proofs.seek.Given as goal
 
 abbrev pub invariant-loop-i : goal.invariant-loop-i
 invariant-loop-i l =
-    (l.i ≤ l.all) × (l.found.count ≤ l.i) ×
+    (count_of l.found ≤ l.i) ×
     (seek_in (means_by l.named l.word l.bit) (fields_of l.esr) ≡ seek_from (means_by l.named l.word l.bit) l.i l.found
     (drop l.i (fields_of l.esr)))
-
-abbrev pub decreases-loop-i : goal.decreases-loop-i
-decreases-loop-i l = l.all - l.i

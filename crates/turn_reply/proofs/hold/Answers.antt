@@ -13,7 +13,7 @@ use Rattle.turn_reply.proofs.Laws.{turned-long}
 use Rattle.turn_reply.proofs.hold.Goals as goal
 
 pub loop-i-init : goal.loop-i-init
-loop-i-init c = (omega arith, refl, refl)
+loop-i-init c = (refl, refl)
 
 pub value_at-requires : goal.value_at-requires
 value_at-requires c =
@@ -28,7 +28,7 @@ offset_bounds-numbers-i c =
 pub bounds-numbers-i : goal.bounds-numbers-i
 bounds-numbers-i c =
     let a = c.args in
-    omega (arith, c.loop-i-test.true, c.loop-i.invariant.1, c.requires, c.field_count-count.ensures, few_fields a.esr)
+    omega (arith, c.loop-i-test.true, c.loop-i.invariant.0, c.requires, c.field_count-count.ensures, few_fields a.esr)
 
 pub loop-i-preserved : goal.loop-i-preserved
 loop-i-preserved c =
@@ -41,10 +41,10 @@ loop-i-preserved c =
       c.field_count-count.ensures,
       turned-long a.esr a.index a.number,
     ) in
-    let written = ap₂ (λ (l : List ℕ) (x : ℕ). set l i x) c.loop-i.invariant.2 c.value_at.ensures ∙ ap
+    let written = ap₂ (λ (l : List ℕ) (x : ℕ). set l i x) c.loop-i.invariant.1 c.value_at.ensures ∙ ap
     (λ (k : ℕ). set (sets a.numbers.now 0 (take i t)) k (get_or t i 0)) (sym (zero-add i))
     ∙ turn a.numbers.now 0 t i within in
-    (omega (arith, c.loop-i-test.true), ap length written ∙ length-sets a.numbers.now 0 (take (i + 1) t), written)
+    (ap length written ∙ length-sets a.numbers.now 0 (take (i + 1) t), written)
 
 pub returns : goal.returns
 returns c =
@@ -57,6 +57,6 @@ returns c =
       turned-long a.esr a.index a.number,
     ) in (
       c.field_count-count.ensures ∙ sym (turned-long a.esr a.index a.number),
-      c.loop-i.invariant.2 ∙ ap
+      c.loop-i.invariant.1 ∙ ap
           (sets a.numbers.now 0) (take_all c.loop-i.i t all),
     )

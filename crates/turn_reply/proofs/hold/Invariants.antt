@@ -1,5 +1,4 @@
 -- The invariant: the numbers so far are written.
-use Prim.Native.Nat.{◌-◌, ◌≤◌}
 use mathlib.Core.Path.{◌≡◌}
 use lib.ListN.{length, take}
 use lib.Seq.{sets}
@@ -8,8 +7,5 @@ use Rattle.turn_reply.proofs.hold.Given as goal
 
 abbrev pub invariant-loop-i : goal.invariant-loop-i
 invariant-loop-i l =
-    (l.i ≤ l.count) × (length l.numbers ≡ length l.initial.numbers)
+    (length l.numbers ≡ length l.initial.numbers)
     × (l.numbers ≡ sets l.initial.numbers 0 (take l.i (turned l.esr l.index l.number)))
-
-abbrev pub decreases-loop-i : goal.decreases-loop-i
-decreases-loop-i l = l.count - l.i

@@ -4,11 +4,11 @@ use Rattle.std.proofs.Common.{◌≡◌, ◌+◌, ◌-◌, ◌≤◌, length, dr
 use Rattle.walk.specs.Walks.{decoded_in, entries_of}
 use Rattle.walk.proofs.count.Given as goal
 
-abbrev pub invariant-loop-at : goal.invariant-loop-at
-invariant-loop-at l =
+abbrev pub invariant-loop-entry : goal.invariant-loop-entry
+invariant-loop-entry l =
     (l.at ≤ length l.block) × (l.entries ≤ l.at) × (l.decoded ≤ l.entries)
     × (length (entries_of l.block) ≡ l.entries + length (entries_of (drop l.at l.block)))
     × (decoded_in l.profile (entries_of l.block) ≡ l.decoded + decoded_in l.profile (entries_of (drop l.at l.block)))
 
-abbrev pub decreases-loop-at : goal.decreases-loop-at
-decreases-loop-at l = length l.block - l.at
+abbrev pub decreases-loop-entry : goal.decreases-loop-entry
+decreases-loop-entry l = length l.block - l.at

@@ -1,6 +1,6 @@
 -- By whether an entry stands there.
 use Rattle.std.proofs.Common.{sym, ap, ◌∙◌}
-use Rattle.entry.specs.declared.Entry.{Entry}
+use Rattle.std.specs.Result.{result_err}
 use Rattle.walk.proofs.Laws.{end-over, end_bad}
 use Rattle.walk.proofs.end_refusal.Goals as goal
 
@@ -9,5 +9,5 @@ returns-then-is_over c = sym (end-over _ (sym c.is_over.ensures ∙ c.if-is_over
 
 pub returns : goal.returns
 returns c =
-    ap (λ (x : Entry). x.refusal) c.read_entry-entry.ensures ∙ sym
-    (end_bad _ (sym c.is_over.ensures ∙ c.if-is_over.false))
+    c.err.ensures.value ∙ ap result_err c.read_entry.ensures
+    ∙ sym (end_bad _ (sym c.is_over.ensures ∙ c.if-is_over.false))

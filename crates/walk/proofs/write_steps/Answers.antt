@@ -1,117 +1,67 @@
 -- The invariant: the places written hold the first steps, the others are as they were, and the steps that are left
 -- follow the last number read.
 use Rattle.std.proofs.Common.{◌<◌, length, drop, sym, refl, ap, ◌∙◌, arith, length-set, drop-drop, rules}
-use Rattle.entry.specs.Entries.{entry_of}
-use Rattle.walk.proofs.Laws.{
-  rest,
-  judged-by,
-  sound-long,
-  long_at,
-  sound_at,
-  bad_at,
-  entries_end,
-  steps_first,
-  steps_none,
-  steps_room,
-  steps_more,
-  steps_done,
-  drop_more,
-}
+use Rattle.entry.proofs.Theorems.{read-free, read-bad, numbers_are}
+use Rattle.entry.specs.declared.Entry.{Entry}
+use Rattle.walk.specs.Walks.{entries_of, sequences, steps_after}
+use Rattle.walk.proofs.Laws.{sound-long, long_at, sound_at, numbers_at, bad_at, steps_first, steps_none, steps_room, steps_more, steps_done, drop_more}
 use Rattle.walk.proofs.write_steps.Goals as goal
 
-pub returns-then-number-ne0 : goal.returns-then-number-ne0
-returns-then-number-ne0 c =
-    let a = c.args in
-    steps_none a.block.now a.steps.now (λ z. c.if-number-ne0.true
-    (judged-by a.block.now c.read_entry-first.ensures c.number.ensures ∙ z))
-
-pub loop-at-init : goal.loop-at-init
-loop-at-init c =
+pub returns-in_default : goal.returns-in_default
+returns-in_default c =
     let s = c.args.block.now in
-    let free = sym (judged-by s c.read_entry-first.ensures c.number.ensures) ∙ c.if-number-ne0.false in
-    (sound-long s free, search rules, refl, search rules, refl, rw c.read_entry-first.ensures (steps_first s free))
+    steps_none s c.args.steps.now (read-bad s (sym c.read_entry.ensures ∙ c.in_default.is))
 
-pub shape_of-steps-then-number-ne0-2 : goal.shape_of-steps-then-number-ne0-2
-shape_of-steps-then-number-ne0-2 c = c.loop-at.invariant.2
+pub loop-next-init : goal.loop-next-init
+loop-next-init c =
+    let s = c.args.block.now in
+    let read = sym c.read_entry.ensures ∙ c.in-Ok.is in
+    let free = read-free s read in (
+      sound-long s free,
+      search rules,
+      refl,
+      search rules,
+      refl,
+      steps_first s free
+          ∙ ap (λ (e : Entry). steps_after e.sequence (sequences (entries_of (drop 13 s)))) (sym (numbers_are s read)),
+    )
 
-pub returns-then-number-ne0-2 : goal.returns-then-number-ne0-2
-returns-then-number-ne0-2 c =
-    let l = c.loop-at in
-    let a = c.args in
-    let t = drop l.at a.block.now in
-    steps_done _ l.steps l.written l.last t l.invariant.3 l.invariant.5 a.steps.now
-    (bad_at a.block.now l.at c.read_entry-next.ensures c.number-in-loop-at.ensures c.if-number-ne0-2.true) l.invariant.4
-
-pub offset_bounds-steps-written : goal.offset_bounds-steps-written
-offset_bounds-steps-written c =
-    let l = c.loop-at in
-    let free = sound_at c.args.block.now c.loop-at.at c.read_entry-next.ensures c.number-in-loop-at.ensures
-    c.if-number-ne0-2.false in
-    let room : l.written < length l.steps = steps_room _ l.steps l.written l.last
-    (drop l.at c.args.block.now) l.invariant.3 l.invariant.5 free (rw l.invariant.2 c.requires) in
-    omega (arith, room, l.invariant.2)
+-- there is a place for the step
+room : (c : goal.After-skipped_to) → c.loop-next.written < length c.loop-next.steps
+room c =
+    let l = c.loop-next in
+    let s = c.args.block.now in
+    steps_room _ l.steps l.written l.last (drop l.at s) l.invariant.3 l.invariant.5
+    (sound_at s l.at c.read_entry-in-loop-next.ensures c.in-Ok-read_entry.is) (rw l.invariant.2 c.requires)
 
 pub bounds-steps-written : goal.bounds-steps-written
-bounds-steps-written c =
-    let l = c.loop-at in
-    let free = sound_at c.args.block.now c.loop-at.at c.read_entry-next.ensures c.number-in-loop-at.ensures
-    c.if-number-ne0-2.false in
-    let room : l.written < length l.steps = steps_room _ l.steps l.written l.last
-    (drop l.at c.args.block.now) l.invariant.3 l.invariant.5 free (rw l.invariant.2 c.requires) in
-    room
+bounds-steps-written c = room c
 
-pub overflow_add-written : goal.overflow_add-written
-overflow_add-written c =
-    omega (
-      arith,
-      long_at c.args.block.now c.loop-at.at c.read_entry-next.ensures c.number-in-loop-at.ensures
-          c.loop-at.invariant.0 c.if-number-ne0-2.false,
-      c.loop-at.invariant.1,
-    )
+pub loop-next-smaller : goal.loop-next-smaller
+loop-next-smaller c =
+    let l = c.loop-next in
+    omega (arith, long_at c.args.block.now l.at c.read_entry-in-loop-next.ensures c.in-Ok-read_entry.is l.invariant.0)
 
-pub overflow_add-at : goal.overflow_add-at
-overflow_add-at c =
-    omega (
-      arith,
-      long_at c.args.block.now c.loop-at.at c.read_entry-next.ensures c.number-in-loop-at.ensures
-          c.loop-at.invariant.0 c.if-number-ne0-2.false,
-    )
-
-pub loop-at-smaller : goal.loop-at-smaller
-loop-at-smaller c =
-    omega (
-      arith,
-      long_at c.args.block.now c.loop-at.at c.read_entry-next.ensures c.number-in-loop-at.ensures
-          c.loop-at.invariant.0 c.if-number-ne0-2.false,
-    )
-
-pub loop-at-preserved : goal.loop-at-preserved
-loop-at-preserved c =
-    let l = c.loop-at in
-    let free = sound_at c.args.block.now c.loop-at.at c.read_entry-next.ensures c.number-in-loop-at.ensures
-    c.if-number-ne0-2.false in
-    let room : l.written < length l.steps = steps_room _ l.steps l.written l.last
-    (drop l.at c.args.block.now) l.invariant.3 l.invariant.5 free (rw l.invariant.2 c.requires) in
+pub loop-next-preserved : goal.loop-next-preserved
+loop-next-preserved c =
+    let l = c.loop-next in
     let s = c.args.block.now in
-    let m = steps_more _ l.steps l.written l.last (drop l.at s) l.invariant.3 l.invariant.5 free _ _
-    (c.read_entry-next.ensures ∙ ap entry_of (rest s l.at)) c.skipped_to.ensures room in (
-      long_at c.args.block.now c.loop-at.at c.read_entry-next.ensures c.number-in-loop-at.ensures c.loop-at.invariant.0
-          c.if-number-ne0-2.false,
+    let read = c.read_entry-in-loop-next.ensures in
+    let place = room c in
+    let m = steps_more _ l.steps l.written l.last (drop l.at s) l.invariant.3 l.invariant.5
+    (sound_at s l.at read c.in-Ok-read_entry.is) _ _ (numbers_at s l.at read c.in-Ok-read_entry.is)
+    c.skipped_to.ensures place in (
+      long_at s l.at read c.in-Ok-read_entry.is l.invariant.0,
       omega (arith, l.invariant.1),
       simp length-set l.invariant.2,
-      simp length-set
-          (omega (arith, room)),
+      simp length-set (omega (arith, place)),
       drop_more l.written _ l.steps _ l.invariant.4,
       rw drop-drop at m,
     )
 
-pub shape_of-steps : goal.shape_of-steps
-shape_of-steps c = c.loop-at.invariant.2
-
 pub returns : goal.returns
 returns c =
-    let l = c.loop-at in
-    let a = c.args in
-    let s = a.block.now in
-    steps_done _ l.steps l.written l.last (drop l.at s) l.invariant.3 l.invariant.5 a.steps.now
-    (entries_end s l.at c.loop-at-test.false) l.invariant.4
+    let l = c.loop-next in
+    let s = c.args.block.now in
+    steps_done _ l.steps l.written l.last (drop l.at s) l.invariant.3 l.invariant.5 c.args.steps.now
+    (bad_at s l.at c.read_entry-in-loop-next.ensures c.in_default-read_entry.is) l.invariant.4

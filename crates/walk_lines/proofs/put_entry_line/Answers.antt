@@ -10,6 +10,6 @@ pub returns : goal.returns
 unfolding entry_line bytes
 returns c =
     let a = c.args in
-    let is : c.decode_by-answer.result ≡ answer_by a.profile a.entry.esr = c.decode_by-answer.ensures in
+    let is : c.decode_by.result ≡ answer_by a.profile a.entry.esr = c.decode_by.ensures in
     rw (← is) (and_then (and_then (and_then (and_then c.put_verdict-next.ensures c.put_place-next.ensures)
     c.put_numbers-next.ensures) c.put_meaning-next.ensures) c.put_bytes.ensures)

@@ -1,5 +1,5 @@
 -- By whether the value is refused; of the project's own pool the class text is the definition's.
-use Rattle.refusals.proofs.Cases.{passed_yes, passed_no}
+use Rattle.refusals.proofs.Cases.{passed-is, refused-is}
 use mathlib.Core.Path.{◌∙◌, ap}
 use Rattle.reply_lines.proofs.Cases.{described-lent}
 use Rattle.esr.specs.Decode.{class_of}
@@ -8,9 +8,9 @@ use Rattle.texts.specs.Pool.{text_code}
 use Rattle.walk_lines.specs.Lines.{meaning}
 use Rattle.walk_lines.proofs.put_meaning.Goals as goal
 
-pub returns-then-number-ne0 : goal.returns-then-number-ne0
+pub returns-then-is_refused : goal.returns-then-is_refused
 unfolding meaning
-returns-then-number-ne0 c = rw (passed_no c.args.refusal c.number.ensures c.if-number-ne0.true) c.put_why.ensures
+returns-then-is_refused c = rw (refused-is c.args.refusal c.is_refused.ensures c.if-is_refused.true) c.put_why.ensures
 
 pub returns : goal.returns
 unfolding meaning
@@ -19,4 +19,4 @@ returns c =
     let own = described-lent class_name.number (class_of a.esr)
     (record { whole = c.pool_bytes-pool.ensures; each = c.text_starts-starts.ensures }) in
     let code = c.text_code-code.ensures ∙ ap (text_code class_name.number) c.field.ensures in
-    rw (passed_yes a.refusal c.number.ensures c.if-number-ne0.false, ← own) (rw code at c.put_text.ensures)
+    rw (passed-is a.refusal c.is_refused.ensures c.if-is_refused.false, ← own) (rw code at c.put_text.ensures)

@@ -1,5 +1,4 @@
 -- The invariant: the lines of the entries so far are what was put; the entry read is the walk's at that index.
-use Prim.Native.Nat.{◌-◌, ◌≤◌}
 use mathlib.Core.Path.{◌≡◌}
 use lib.ListN.{length, take}
 use Rattle.buffer.specs.Appending.{Appends}
@@ -10,10 +9,5 @@ use Rattle.walk_reply.proofs.put_entries.Given as goal
 
 abbrev pub invariant-loop-i : goal.invariant-loop-i
 invariant-loop-i l =
-    (l.i ≤ l.count)
-    × Appends (in_order (lines_at l.profile l.steps) (take l.i (entries_of l.block)))
-    (l.at, l.initial.buf) (l.next, l.buf)
+    Appends (in_order (lines_at l.profile l.steps) (take l.i (entries_of l.block))) (l.at, l.initial.buf) (l.next, l.buf)
     × (length l.buf ≡ length l.initial.buf)
-
-abbrev pub decreases-loop-i : goal.decreases-loop-i
-decreases-loop-i l = l.count - l.i

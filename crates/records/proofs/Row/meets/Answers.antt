@@ -1,5 +1,6 @@
 -- By the mark of the row's kind.
-use mathlib.Core.Path.{◌≡◌, refl, ap, ◌∙◌}
+use mathlib.Core.Logic.{inl, inr}
+use mathlib.Core.Path.{◌≡◌, refl, sym, ap, ◌∙◌}
 use Prim.Native.Nat.{ℕ}
 use lib.Dec.{eqb}
 use Rattle.texts.specs.Pool.{describes}
@@ -17,17 +18,17 @@ unfolding meets
 marked row v y e = marked-allows (row_kind row) _ y row.rule (value_in v row) e refl
 
 pub returns-in-Free : goal.returns-in-Free
-returns-in-Free c = marked c.args.self c.args.v _ c.in-Free.ensures
+returns-in-Free c = elim c.in-Free.is [
+  | inl e ↦ marked c.args.self c.args.v _ (sym e ∙ c.of_kind.ensures)
+  | inr e ↦ marked c.args.self c.args.v _ (sym e ∙ c.of_kind.ensures)
+]
 
 pub returns-in-Coded : goal.returns-in-Coded
 returns-in-Coded c =
     c.describes.ensures
     ∙ ap (describes c.args.self.rule) c.field-value.ensures
-    ∙ marked c.args.self c.args.v _ c.in-Coded.ensures
+    ∙ marked c.args.self c.args.v _ (sym c.in-Coded.is ∙ c.of_kind.ensures)
 
 pub returns-in-Checked : goal.returns-in-Checked
 returns-in-Checked c =
-    ap (λ (n : ℕ). eqb n 0) c.field-value.ensures ∙ marked c.args.self c.args.v _ c.in-Checked.ensures
-
-pub returns-in-Unchecked : goal.returns-in-Unchecked
-returns-in-Unchecked c = marked c.args.self c.args.v _ c.in-Unchecked.ensures
+    ap (λ (n : ℕ). eqb n 0) c.field-value.ensures ∙ marked c.args.self c.args.v _ (sym c.in-Checked.is ∙ c.of_kind.ensures)

@@ -1,5 +1,6 @@
 -- By the mark of the row's kind: that of a checked reserved field names the field, and no other does.
-use mathlib.Core.Path.{◌≡◌, refl, ap, ap₂, ◌∙◌}
+use mathlib.Core.Logic.{inl, inr}
+use mathlib.Core.Path.{◌≡◌, refl, sym, ap, ap₂, ◌∙◌}
 use Prim.Native.Nat.{ℕ, ◌/◌}
 use Rattle.refusals.specs.Refusals.{carrying, reserved_bits}
 use Rattle.refusals.specs.declared.Reason.TheVariants.{None}
@@ -20,21 +21,18 @@ pub returns-in-Free : goal.returns-in-Free
 returns-in-Free c =
     c.carrying.ensures
     ∙ ap (carrying None) c.field-carries.ensures
-    ∙ marked c.args.self c.args.v _ c.in-Free.ensures
+    ∙ elim c.in-Free.is [
+      | inl e ↦ marked c.args.self c.args.v _ (sym e ∙ c.of_kind.ensures)
+      | inr e ↦ marked c.args.self c.args.v _ (sym e ∙ c.of_kind.ensures)
+    ]
 
 pub returns-in-Coded : goal.returns-in-Coded
 returns-in-Coded c =
     c.carrying-in-Coded.ensures
     ∙ ap₂ carrying c.reason_at.ensures c.field-carries.ensures
-    ∙ marked c.args.self c.args.v _ c.in-Coded.ensures
+    ∙ marked c.args.self c.args.v _ (sym c.in-Coded.is ∙ c.of_kind.ensures)
 
 pub returns-in-Checked : goal.returns-in-Checked
 returns-in-Checked c =
     let r = c.args.self in
-    ap (reserved_bits r.start r.width) c.field-carries.ensures ∙ marked r c.args.v _ c.in-Checked.ensures
-
-pub returns-in-Unchecked : goal.returns-in-Unchecked
-returns-in-Unchecked c =
-    c.carrying-in-Unchecked.ensures
-    ∙ ap (carrying None) c.field-carries.ensures
-    ∙ marked c.args.self c.args.v _ c.in-Unchecked.ensures
+    ap (reserved_bits r.start r.width) c.field-carries.ensures ∙ marked r c.args.v _ (sym c.in-Checked.is ∙ c.of_kind.ensures)

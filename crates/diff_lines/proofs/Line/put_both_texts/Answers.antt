@@ -1,0 +1,11 @@
+-- Six appenders, one after the other.
+use Rattle.buffer.proofs.Appending.{and_then}
+use Rattle.texts.specs.Pool.{bytes}
+use Rattle.diff_lines.specs.Lines.{texts_line}
+use Rattle.diff_lines.proofs.Line.put_both_texts.Goals as goal
+
+pub returns : goal.returns
+unfolding texts_line bytes
+returns c =
+    and_then (and_then (and_then (and_then (and_then c.put_front-next.ensures c.put_bytes-next.ensures)
+    c.put_text_or-next.ensures) c.put_bytes-next-2.ensures) c.put_text_or-next-2.ensures) c.put_bytes.ensures

@@ -1,0 +1,6 @@
+-- The part keeps its length.
+use Rattle.std.proofs.Common.{◌≡◌, length}
+use Rattle.esr_listing.proofs.Asked.answer_all.Given as goal
+
+abbrev pub invariant-reads : goal.invariant-reads
+invariant-reads l = length l.part ≡ length l.fn.part
