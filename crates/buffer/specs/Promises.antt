@@ -2,6 +2,7 @@
 use Rattle.std.specs.Prelude.{ℕ, ◌+◌, List, ◌≡◌}
 use Rattle.buffer.specs.Appending.{offset, Appends}
 use Rattle.buffer.specs.Lent.{part_in}
+use Rattle.texts.specs.Pool.{bytes_at}
 
 -- the offset after so many bytes
 abbrev pub OffsetAfter : ℕ × ℕ → ℕ → Type 0
@@ -13,3 +14,7 @@ BytesPut (before, at, text) out = Appends text (at, before) out
 -- the pool and its starts are whatever is lent
 abbrev pub TextPut : List ℕ × ℕ × List ℕ × List ℕ × ℕ → ℕ × List ℕ → Type 0
 TextPut (before, at, lent, starting, code) out = Appends (part_in lent starting code) (at, before) out
+
+-- the text of a code, of the project's own pool
+abbrev pub CodePut : List ℕ × ℕ × ℕ → ℕ × List ℕ → Type 0
+CodePut (before, at, code) out = Appends (bytes_at code) (at, before) out

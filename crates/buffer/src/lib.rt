@@ -3,7 +3,7 @@
 #![tactic(auto)]
 
 ghost use Rattle.std.specs.Prelude.{◌≡◌};
-ghost use Rattle.buffer.specs.Promises.{BytesPut, OffsetAfter, TextPut};
+ghost use Rattle.buffer.specs.Promises.{BytesPut, CodePut, OffsetAfter, TextPut};
 
 // The offset after so many bytes. Past the last that a usize holds it stays there, at or past the end of every buffer.
 pub fn offset_after(at: usize, count: usize) -> usize
@@ -37,4 +37,13 @@ pub fn put_text(buf: &mut [u8], at: usize, pool: &[u8], starts: &[u16], code: u1
         return at;
     }
     put_bytes(buf, at, &pool[from..from + n])
+}
+
+// The text of a code, by the project's own pool.
+pub fn put_code(buf: &mut [u8], at: usize, code: u16) -> usize
+    ensures { CodePut (buf.old, at, code) (result, buf.new) }
+{
+    let pool = texts::pool_bytes();
+    let starts = texts::text_starts();
+    put_text(buf, at, pool, starts, code)
 }

@@ -22,7 +22,7 @@ pub fn length_of(code: u16) -> u16
     ensures { LengthOf code result }
 {
     let starts = texts::text_starts();
-    length_in(&starts, code)
+    length_in(starts, code)
 }
 
 // A rule in numbers: the values that it has a text for, as bits, and its first code, that of the value 0.

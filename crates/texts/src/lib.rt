@@ -1,6 +1,5 @@
-// Every name, long name and text: one constant pool and its starts, and the codes by which the crates above speak of them.
-// A constant array is built anew by each function that indexes it, so a caller with more than one byte to read fetches the pool and the
-// starts once and lends them.
+// Every name, long name and text: one constant pool and its starts, and the codes by which the crates above speak of
+// them. Both are statics, which lie in one place and are lent: no caller copies them.
 #![tactic(auto)]
 
 ghost use Rattle.texts.specs.Promises.{Pool, Starts};
@@ -16,14 +15,14 @@ pub const COUNT: usize = pool::COUNT;
 
 pub const START_COUNT: usize = pool::START_COUNT;
 
-pub fn pool_bytes() -> [u8; LENGTH]
-    ensures { Pool tt result }
+pub fn pool_bytes() -> &'static [u8; LENGTH]
+    ensures { Pool tt result.now }
 {
-    pool::POOL
+    &pool::POOL
 }
 
-pub fn text_starts() -> [u16; START_COUNT]
-    ensures { Starts tt result }
+pub fn text_starts() -> &'static [u16; START_COUNT]
+    ensures { Starts tt result.now }
 {
-    pool::STARTS
+    &pool::STARTS
 }
