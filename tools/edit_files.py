@@ -9,7 +9,7 @@ from collections import namedtuple
 Edit = namedtuple("Edit", "crate name what pairs file")  # file: the path of its file, without the suffix the label of its run
 
 FUNCTION = re.compile(r"\s*(?:pub(?:\(crate\))? )?(?:extern \"C\" )?fn (\w+)")
-CONSTANT = re.compile(r"\s*(?:pub(?:\(crate\))? )?const (\w+)")
+CONSTANT = re.compile(r"\s*(?:pub(?:\(crate\))? )?(?:const|static) (\w+)")
 OTHER = re.compile(r"(?:pub )?(?:struct|enum|use|ghost use|mod|impl)\b")
 ATTRIBUTES = re.compile(r"(?:\s*#\[(?:[^\[\]]|\[[^\[\]]*\])*\]\n)+")
 
@@ -68,7 +68,7 @@ def attributes_above(lines):
 
 
 def items(crate, source, path):
-    """The functions and constants of a file of code, by the names that the prover has for them, with what stands between."""
+    """The functions, constants and statics of a file of code, by the names that the prover has for them, with what stands between."""
     module = [] if path.stem in ("lib", "main") else list(path.relative_to(source).with_suffix("").parts)
     kind, name, first, gathered, owner = "", "", 1, [], []
     for number, line in enumerate(path.read_text().splitlines(keepends=True), 1):
@@ -96,7 +96,7 @@ def without_comments(text):
 
 
 class Code:
-    """The functions and constants of a crate, or of a copy of it."""
+    """The functions, constants and statics of a crate, or of a copy of it."""
 
     def __init__(self, folder, crate):
         source = folder / "src"

@@ -1,6 +1,6 @@
 -- 01's numbers, a byte at a time: a stage says what the next byte may be besides a digit, and what stands behind the number (#107).
 use Prim.Native.Char.{code}
-use Rattle.std.specs.Prelude.{◌≡◌, ℕ, ◌+◌, Bool, true, false, cond, List, [], ◌∷◌, length, ◌==◌}
+use Rattle.std.specs.Prelude.{◌≡◌, ℕ, zero, suc, ◌+◌, Bool, true, false, cond, List, [], ◌∷◌, length, drop, ◌==◌}
 use Rattle.number.specs.Numbers.{refused, read_digit, read_digits, number_of}
 use Rattle.number.specs.Rest.{is_stop, before_stop, bad_rest}
 use Rattle.number.specs.declared.Lead.{Lead}
@@ -113,6 +113,11 @@ finish_of st = cond (is_remark st.stage) bad_rest (finish_before_of st)
 unfoldable pub lead_of : Lead → List ℕ → Lead
 lead_of l [] = l
 lead_of l (b ∷ bs) = cond (is_digits (stage_after l.state.stage b)) l (record { state = advance_of l.state b; at = l.at + 1 })
+
+-- so many of them
+unfoldable pub leads_of : ℕ → Lead → List ℕ → Lead
+leads_of zero l s = l
+leads_of (suc k) l s = leads_of k (lead_of l (drop l.at s)) s
 
 -- what read_number's loop gives: the number before the first stop, and how many bytes stand before it
 abbrev pub StepsTo : List ℕ → Lead → Type 0

@@ -2,13 +2,14 @@
 // (#107), the state after each byte handed on to the next.
 #![tactic(auto)]
 
-ghost use Rattle.std.specs.Prelude.{◌≡◌, ◌<◌, ◌≤◌, false, drop};
+ghost use Rattle.std.specs.Option.{unwrap_or};
+ghost use Rattle.std.specs.Prelude.{◌≡◌, ◌<◌, ◌≤◌, false, drop, length};
 ghost use Rattle.number.specs.Digits.{base_of, digit_of};
 ghost use Rattle.number.specs.Numbers.{in_digits, read_digit, refused};
 ghost use Rattle.number.specs.Promises.{Finished, FinishedBefore, Opened, Parsed, Started, Stepped, TookNumber};
 ghost use Rattle.number.specs.Rest.{are_stops, bad_rest, is_stop, taking, whole_by};
-ghost use Rattle.number.specs.Steps.{DigitsTo, StepsTo, advance_of, end_reason, finish_before_of, lead_of, stage_after};
-ghost use Rattle.number.specs.Steps.{stop_of};
+ghost use Rattle.number.specs.Steps.{DigitsTo, StepsTo, advance_of, end_reason, finish_before_of, lead_of, leads_of};
+ghost use Rattle.number.specs.Steps.{stage_after, stop_of};
 
 use refusals::{Reason, Refusal};
 
@@ -101,12 +102,16 @@ fn digit_of(hex: bool, b: u8) -> u64
 fn stage_after(stage: Stage, b: u8) -> Stage
     ensures { result ≡ stage_after stage b }
 {
-    match (stage, b) {
-        (Stage::Begin | Stage::Prefix, SIGN) => Stage::Sign,
-        (Stage::Begin, b'0') => Stage::Zero,
-        (Stage::Zero, b'x') => Stage::Prefix,
-        (Stage::Stopped | Stage::Remark, _) => Stage::Remark,
-        _ => Stage::Digits,
+    match stage {
+        Stage::Begin => match b {
+            SIGN => Stage::Sign,
+            b'0' => Stage::Zero,
+            _ => Stage::Digits,
+        },
+        Stage::Zero if b == b'x' => Stage::Prefix,
+        Stage::Prefix if b == SIGN => Stage::Sign,
+        Stage::Zero | Stage::Prefix | Stage::Sign | Stage::Digits => Stage::Digits,
+        Stage::Stopped | Stage::Remark => Stage::Remark,
     }
 }
 
@@ -244,11 +249,11 @@ impl NumberState {
     }
 }
 
-// Whether only stops stand from an offset on.
-fn are_stops(s: &[u8], from: usize) -> bool
-    ensures { result ≡ are_stops (drop from s.now) }
+// Whether only stops stand there.
+fn are_stops(rest: &[u8]) -> bool
+    ensures { result ≡ are_stops rest.now }
 {
-    s.iter().skip(from).all(|b| is_stop(*b))
+    rest.iter().all(|b| is_stop(*b))
 }
 
 impl Lead {
@@ -267,10 +272,11 @@ impl Lead {
     // The number of a state, of which the whole input is said: what stands from its offset on is looked at where the
     // number itself is not refused.
     fn whole(self, s: &[u8]) -> Number
+        requires { self.at ≤ length s.now }
         ensures { result ≡ whole_by (finish_before_of self.state) (are_stops (drop self.at s.now)) }
     {
         let number = self.state.finish_before();
-        if !number.refusal.is_refused() && !are_stops(s, self.at) {
+        if !number.refusal.is_refused() && !are_stops(&s[self.at..]) {
             return bad_rest();
         }
         number
@@ -299,27 +305,42 @@ pub fn read_number(s: &[u8]) -> Result<NumberRead, Refusal>
 
 // Takes one character, if there is one that stands before the digits. A stop does not.
 #[tactic(auto, unfolding(crate::specs::Steps::lead_of))]
-fn take_lead(from: Lead, s: &[u8]) -> Lead
-    ensures { result ≡ lead_of from (drop from.at s.now) }
+fn take_lead(from: Lead, s: &[u8]) -> Option<Lead>
+    ensures taken { unwrap_or result from ≡ lead_of from (drop from.at s.now) }
+    ensures within { from.at ≤ length s.now → (unwrap_or result from).at ≤ length s.now }
 {
-    let Some(b) = s.get(from.at) else {
-        return from;
-    };
+    let b = s.get(from.at)?;
     let state = from.state.advance(*b);
     if state.stage == Stage::Digits {
-        return from;
+        return None;
     }
-    Lead {
+    Some(Lead {
         state,
         at: from.at + 1,
-    }
+    })
+}
+
+// Takes all that stand before the digits: three at most, "0x+".
+fn take_leads(from: Lead, s: &[u8]) -> Lead
+    ensures taken { result ≡ leads_of 3 from s.now }
+    ensures within { from.at ≤ length s.now → result.at ≤ length s.now }
+{
+    let Some(one) = take_lead(from, s) else {
+        return from;
+    };
+    let Some(two) = take_lead(one, s) else {
+        return one;
+    };
+    take_lead(two, s).unwrap_or(two)
 }
 
 // It ends at a stop, or at a refusal, since the characters after the first offender change nothing. Whether a character
 // is a stop is asked only where it is no digit: a stop is none.
 fn read_digits(from: Lead, s: &[u8]) -> Lead
-    requires { refused from.state.reason ≡ false }
-    ensures { DigitsTo from (drop from.at s.now) result }
+    requires free { refused from.state.reason ≡ false }
+    requires within { from.at ≤ length s.now }
+    ensures read { DigitsTo from (drop from.at s.now) result }
+    ensures within { result.at ≤ length s.now }
 {
     let mut state = from.state;
     for at in from.at..s.len() {
@@ -330,14 +351,11 @@ fn read_digits(from: Lead, s: &[u8]) -> Lead
         }
         state = next;
     }
-    Lead {
-        state,
-        at: from.at.max(s.len()),
-    }
+    Lead { state, at: s.len() }
 }
 
-// What a step for each byte gives, but quicker. At most three characters stand before the digits: "0x+". The digits are
-// read in a loop of their own, which is compiled once for each base, where the base is a constant.
+// What a step for each byte gives, but quicker: the digits are read in a loop of their own, which is compiled once for
+// each base, where the base is a constant.
 pub fn parse_number(s: &[u8]) -> Number
     ensures { Parsed s.now result }
 {
@@ -345,7 +363,7 @@ pub fn parse_number(s: &[u8]) -> Number
         state: NumberState::start(),
         at: 0,
     };
-    let last = take_lead(take_lead(take_lead(start, s), s), s);
+    let last = take_leads(start, s);
     if last.state.hex {
         return read_digits(last, s).whole(s);
     }
