@@ -65,8 +65,7 @@ ARCHIVED = {
     "aarch64": ("--target=aarch64-unknown-none-elf", "-mgeneral-regs-only", "-mstrict-align", "-fPIC"),
     "x86_64": ("--target=x86_64-unknown-linux-gnu", "-fPIC"),
 }
-# With the functions that are lent the texts compiled into their callers, clang sees that nothing writes to the copy on the stack, and reads the one constant in
-# its place.
+# How large a function clang compiles into its callers. By its own limit the number reader calls a function for each digit, and takes three times as long.
 IN_PLACE = ("-mllvm", "-inline-threshold=1000")
 # One of this size is called and not copied: the maker calls it in two places.
 APART = ("layouts::layout_of",)
