@@ -1,6 +1,6 @@
 -- The layout of a table at known answers of its tests, and those answers from what the code finds.
 use mathlib.Core.Path.{◌≡◌, refl, sym, ap, ap₂, ◌∙◌}
-use mathlib.Core.Bool.{Bool, true, false, cond}
+use mathlib.Core.Bool.{Bool, true, false, cond, true≢false}
 use mathlib.Core.List.{List, [], ◌∷◌, map}
 use Prim.Native.Nat.{ℕ}
 use lib.Dec.{T, eqb}
@@ -8,7 +8,7 @@ use borrow.Author.Tests.{eq-eqb, ne_eqb, eqb-true, eqb-false}
 use Rattle.promise.specs.Member.{member}
 use Rattle.records.specs.Bits.{field_of}
 use Rattle.records.specs.declared.Row.{Row}
-use Rattle.tables.specs.Shape.{Test, Table, bit, is_external, externals}
+use Rattle.tables.specs.Shape.{Test, Table, bit, is_status, is_external, externals}
 use Rattle.tables.specs.Applying.{passes, keep, rows_for}
 use Rattle.layouts.specs.Layouts.{indices_of, laid, layout_for}
 use Rattle.layouts.specs.declared.Layout.{Layout}
@@ -57,3 +57,8 @@ passes-bit v position b false e h = fails-one v position 1 1 (eqb-false (field_o
 pub passes-external : (v x : ℕ) (b : Bool) → x ≡ field_of v 0 6 → b ≡ member x externals → passes v is_external ≡ b
 unfolding passes
 passes-external v x b e h = sym (h ∙ ap (λ (y : ℕ). member y externals) e)
+
+-- a status that is not external is not 0x10
+pub fails-status : (v x : ℕ) → x ≡ field_of v 0 6 → false ≡ member x externals → passes v (is_status 0x10) ≡ false
+fails-status v x e h =
+    fails-one v 0 6 0x10 (λ is. true≢false (sym (h ∙ ap (λ (y : ℕ). member y externals) (e ∙ is))))

@@ -1,9 +1,8 @@
-// The rows of all layouts, from high bits to low, each once; RES0_16_25 is bits 16 to 24. A constant is built anew wherever it is named, which
-// lengthens the proof, so a routine names a row once, in a local, and its layouts copy it.
+// The rows of all layouts, from high bits to low, each once; RES0_16_25 is bits 16 to 24.
 use records::{Row, kinds as k};
 use texts::{names as n, rules as r};
 
-// What stands where a layout has no row. The routines name it `o`, so that the rows of a layout stand on one line, above the indices of those to check.
+// What stands where a layout has no row.
 pub(crate) const PAD: Row = Row {
     start: 0,
     width: 0,

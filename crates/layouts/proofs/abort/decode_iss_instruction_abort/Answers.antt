@@ -1,5 +1,6 @@
--- By the answers of the two tests of the status: external, and 0x10.
-use mathlib.Core.Path.{refl, sym, ◌∙◌}
+-- By the answers of the two tests: external, and the status 0x10.
+-- Where an arm did not ask a test, its answer does not matter.
+use mathlib.Core.Path.{sym, ◌∙◌}
 use mathlib.Core.Bool.{true, false}
 use mathlib.Core.List.{List, [], ◌∷◌}
 use Prim.Native.Nat.{ℕ}
@@ -10,7 +11,7 @@ use Rattle.records.specs.Kinds.{kind_of}
 use Rattle.tables.specs.Tables.{instruction_abort}
 use lib.Dec.{T}
 use Rattle.tables.proofs.Laws.{knows_lines}
-use Rattle.layouts.proofs.Laws.{layout-at, passes-one, fails-one, passes-external}
+use Rattle.layouts.proofs.Laws.{layout-at, passes-one, fails-one, fails-status, passes-external}
 use Rattle.layouts.proofs.abort.decode_iss_instruction_abort.Goals as goal
 
 abbrev tests : List Test
@@ -21,40 +22,39 @@ knows : T (knows_lines tests instruction_abort.lines)
 unfolding instruction_abort
 knows = tt
 
-pub returns-then-status-eq16 : goal.returns-then-status-eq16
+pub returns-then-not-is_external_abort_fsc : goal.returns-then-not-is_external_abort_fsc
 unfolding instruction_abort code index_in names kind_of
-returns-then-status-eq16 c =
+returns-then-not-is_external_abort_fsc c =
     let v : ℕ = c.args.iss in
-    layout-at instruction_abort tests knows v (true ∷ true ∷ []) (
-      passes-external v 0x10 true (sym c.if-status-eq16.true ∙ c.field-status.ensures) refl,
+    c.laid.ensures
+    ∙ layout-at instruction_abort tests knows v (false ∷ false ∷ []) (
+      passes-external v _ false c.field-status.ensures
+          (sym c.if-not-is_external_abort_fsc.true ∙ c.is_external_abort_fsc.ensures),
       (
-        passes-one v 0 6 0x10 (sym c.field-status.ensures ∙ c.if-status-eq16.true),
+        fails-status v _ c.field-status.ensures
+            (sym c.if-not-is_external_abort_fsc.true ∙ c.is_external_abort_fsc.ensures),
         tt,
       ),
     )
 
-pub returns-then-is_external_abort_fsc : goal.returns-then-is_external_abort_fsc
+pub returns-then-status-ne16 : goal.returns-then-status-ne16
 unfolding instruction_abort code index_in names kind_of
-returns-then-is_external_abort_fsc c =
+returns-then-status-ne16 c =
     let v : ℕ = c.args.iss in
-    layout-at instruction_abort tests knows v (true ∷ false ∷ []) (
+    c.laid-then-status-ne16.ensures
+    ∙ layout-at instruction_abort tests knows v (true ∷ false ∷ []) (
       passes-external v _ true c.field-status.ensures
-          (sym c.if-is_external_abort_fsc.true ∙ c.is_external_abort_fsc.ensures),
-      (
-        fails-one v 0 6 0x10 (λ e. c.if-status-eq16.false (c.field-status.ensures ∙ e)),
-        tt,
-      ),
+          (sym c.if-not-is_external_abort_fsc.false ∙ c.is_external_abort_fsc.ensures),
+      (fails-one v 0 6 0x10 (λ e. c.if-status-ne16.true (c.field-status.ensures ∙ e)), tt),
     )
 
 pub returns : goal.returns
 unfolding instruction_abort code index_in names kind_of
 returns c =
     let v : ℕ = c.args.iss in
-    layout-at instruction_abort tests knows v (false ∷ false ∷ []) (
-      passes-external v _ false c.field-status.ensures
-          (sym c.if-is_external_abort_fsc.false ∙ c.is_external_abort_fsc.ensures),
-      (
-        fails-one v 0 6 0x10 (λ e. c.if-status-eq16.false (c.field-status.ensures ∙ e)),
-        tt,
-      ),
+    c.laid-2.ensures
+    ∙ layout-at instruction_abort tests knows v (true ∷ true ∷ []) (
+      passes-external v _ true c.field-status.ensures
+          (sym c.if-not-is_external_abort_fsc.false ∙ c.is_external_abort_fsc.ensures),
+      (passes-one v 0 6 0x10 (sym c.field-status.ensures ∙ c.if-status-ne16.false), tt),
     )

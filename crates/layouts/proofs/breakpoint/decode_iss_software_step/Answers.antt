@@ -1,4 +1,5 @@
 -- By the answer of the one test, bit 24.
+use mathlib.Core.Path.{◌∙◌}
 use mathlib.Core.Bool.{true, false}
 use mathlib.Core.List.{List, [], ◌∷◌}
 use Prim.Native.Nat.{ℕ}
@@ -17,7 +18,7 @@ pub returns-then-as_bit : goal.returns-then-as_bit
 unfolding software_step code index_in names kind_of
 returns-then-as_bit c =
     let v : ℕ = c.args.iss in
-    layout-at software_step tests tt v (true ∷ []) (
+    c.laid.ensures ∙ layout-at software_step tests tt v (true ∷ []) (
       passes-bit v 24 _ true c.as_bit.ensures c.if-as_bit.true,
       tt,
     )
@@ -26,7 +27,7 @@ pub returns : goal.returns
 unfolding software_step code index_in names kind_of
 returns c =
     let v : ℕ = c.args.iss in
-    layout-at software_step tests tt v (false ∷ []) (
+    c.laid-2.ensures ∙ layout-at software_step tests tt v (false ∷ []) (
       passes-bit v 24 _ false c.as_bit.ensures c.if-as_bit.false,
       tt,
     )

@@ -27,14 +27,25 @@ pub returns-then-as_bit : goal.returns-then-as_bit
 unfolding serror code index_in names kind_of
 returns-then-as_bit c =
     let v : ℕ = c.args.iss in
-    layout-at serror tests knows v (true ∷ passes v (is_status 0x11) ∷ passes v (bit 7) ∷ []) (
+    c.laid.ensures
+    ∙ layout-at serror tests knows v (true ∷ passes v (is_status 0x11) ∷ passes v (bit 7) ∷ []) (
       passes-bit v 24 _ true c.as_bit.ensures c.if-as_bit.true,
       (
         refl,
-        (
-          refl,
-          tt,
-        ),
+        (refl, tt),
+      ),
+    )
+
+pub returns-then-field-ne17 : goal.returns-then-field-ne17
+unfolding serror code index_in names kind_of
+returns-then-field-ne17 c =
+    let v : ℕ = c.args.iss in
+    c.laid-then-field-ne17.ensures
+    ∙ layout-at serror tests knows v (false ∷ false ∷ passes v (bit 7) ∷ []) (
+      passes-bit v 24 _ false c.as_bit.ensures c.if-as_bit.false,
+      (
+        fails-one v 0 6 0x11 (λ e. c.if-field-ne17.true (c.field.ensures ∙ e)),
+        (refl, tt),
       ),
     )
 
@@ -42,29 +53,12 @@ pub returns-then-as_bit-2 : goal.returns-then-as_bit-2
 unfolding serror code index_in names kind_of
 returns-then-as_bit-2 c =
     let v : ℕ = c.args.iss in
-    layout-at serror tests knows v (false ∷ true ∷ true ∷ []) (
+    c.laid-then-as_bit-2.ensures
+    ∙ layout-at serror tests knows v (false ∷ true ∷ true ∷ []) (
       passes-bit v 24 _ false c.as_bit.ensures c.if-as_bit.false,
       (
-        passes-one v 0 6 0x11 (sym c.field.ensures ∙ c.if-field-eq17.true),
-        (
-          passes-bit v 7 _ true c.as_bit-then-field-eq17.ensures c.if-as_bit-2.true,
-          tt,
-        ),
-      ),
-    )
-
-pub returns-then-field-eq17 : goal.returns-then-field-eq17
-unfolding serror code index_in names kind_of
-returns-then-field-eq17 c =
-    let v : ℕ = c.args.iss in
-    layout-at serror tests knows v (false ∷ true ∷ false ∷ []) (
-      passes-bit v 24 _ false c.as_bit.ensures c.if-as_bit.false,
-      (
-        passes-one v 0 6 0x11 (sym c.field.ensures ∙ c.if-field-eq17.true),
-        (
-          passes-bit v 7 _ false c.as_bit-then-field-eq17.ensures c.if-as_bit-2.false,
-          tt,
-        ),
+        passes-one v 0 6 0x11 (sym c.field.ensures ∙ c.if-field-ne17.false),
+        (passes-bit v 7 _ true c.as_bit-2.ensures c.if-as_bit-2.true, tt),
       ),
     )
 
@@ -72,13 +66,11 @@ pub returns : goal.returns
 unfolding serror code index_in names kind_of
 returns c =
     let v : ℕ = c.args.iss in
-    layout-at serror tests knows v (false ∷ false ∷ passes v (bit 7) ∷ []) (
+    c.laid-2.ensures
+    ∙ layout-at serror tests knows v (false ∷ true ∷ false ∷ []) (
       passes-bit v 24 _ false c.as_bit.ensures c.if-as_bit.false,
       (
-        fails-one v 0 6 0x11 (λ e. c.if-field-eq17.false (c.field.ensures ∙ e)),
-        (
-          refl,
-          tt,
-        ),
+        passes-one v 0 6 0x11 (sym c.field.ensures ∙ c.if-field-ne17.false),
+        (passes-bit v 7 _ false c.as_bit-2.ensures c.if-as_bit-2.false, tt),
       ),
     )
