@@ -14,9 +14,9 @@ ghost use Rattle.tables.specs.Tables.{iss_under};
 ghost use Rattle.texts.specs.Pool as pool;
 
 use engine_table::{checks, places, rows, rules};
-use records::{Mark, Record, Records, Row, kinds as k};
+use records::{Mark, Record, Records, Row};
 use refusals::{Reason, Refusal};
-use texts::{names as n, rules as r};
+use texts::rules as r;
 
 pub mod slots;
 pub mod top;
@@ -87,15 +87,13 @@ fn fails(answers: u64, iss: u64, word: u64) -> bool
     requires { T (direct word) }
     ensures { result ≡ engine.fails answers iss word }
 {
-    if !applies(answers, word) {
-        return false;
-    }
     let value = value_in(word, iss);
-    match Mark::of_kind(byte(word, 7)) {
-        Mark::Checked => value != 0,
-        Mark::Coded => !describes(byte(word, 3), value),
-        Mark::Free | Mark::Unchecked => false,
-    }
+    applies(answers, word)
+        && match Mark::of_kind(byte(word, 7)) {
+            Mark::Checked => value != 0,
+            Mark::Coded => !describes(byte(word, 3), value),
+            Mark::Free | Mark::Unchecked => false,
+        }
 }
 
 // What the first row that fails answers, in the order of the checks: the rows' indices are the bytes of a number.
@@ -163,15 +161,7 @@ fn iss_record(esr: u64, rule: u8) -> Record
     if rule == r::PLAIN {
         return record_in(slots::ISS, esr);
     }
-    let iss = Row {
-        start: 0,
-        width: 25,
-        name: n::ISS,
-        long: n::ISS_LONG,
-        rule,
-        kind: k::FREE,
-    };
-    iss.get(esr)
+    Row { rule, ..top::ISS }.get(esr)
 }
 
 // Beside `slots::top_slots`, no plainer as one: five lines each, with records here and pairs of words there.

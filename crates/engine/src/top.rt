@@ -37,3 +37,13 @@ pub const IL: Row = Row {
     rule: r::IL,
     kind: k::FREE,
 };
+
+// A layout puts its own rule in the place of this one.
+pub const ISS: Row = Row {
+    start: 0,
+    width: 25,
+    name: n::ISS,
+    long: n::ISS_LONG,
+    rule: r::PLAIN,
+    kind: k::FREE,
+};

@@ -13,9 +13,8 @@ ghost use Rattle.std.specs.Prelude.{◌≡◌};
 
 use engine::top;
 use layouts::numbers;
-use records::{Records, Row, kinds as k};
+use records::{Records, Row};
 use refusals::{Reason, Refusal};
-use texts::names as n;
 
 // A refusal and no records, or the records. Kept beside each other: document 01 names this form.
 #[derive(Clone, Copy)]
@@ -123,8 +122,10 @@ fn refuse(refusal: Refusal) -> Answer
     }
 }
 
-// What the first row that refuses its field answers, in the order of the checks. A layout is fetched by each function that walks it: one
-// that is handed on by value is copied, which costs more.
+// What the first row that refuses its field answers, in the order of the checks. A layout is fetched by each function that
+// walks it: one that is handed on by value is copied, which costs more.
+// Kept as two parameters, a layout's number and an ISS, no plainer as one: a struct of both would be built in `read` alone
+// and taken apart again in the two functions below.
 fn first_failure(number: u8, iss: u64) -> Result<(), Refusal>
     ensures { result ≡ checked (failure_for (table_of number) iss) }
 {
@@ -139,18 +140,15 @@ fn first_failure(number: u8, iss: u64) -> Result<(), Refusal>
     Ok(())
 }
 
-// The top records, then ISS's own from high bits to low, each written where it stays. The layout says how ISS's text is found.
+// The top records, then ISS's own from high bits to low, each written where it stays. The layout says how ISS's text is
+// found.
 fn all_records(esr: u64, number: u8, iss: u64) -> Records
     ensures { result ≡ records_of (records_for (table_of number) esr iss) }
 {
     let layout = layouts::layout_of(number, iss);
     let whole = Row {
-        start: 0,
-        width: 25,
-        name: n::ISS,
-        long: n::ISS_LONG,
         rule: layout.rule,
-        kind: k::FREE,
+        ..top::ISS
     };
     let mut out = Records::empty();
     out.items[0] = top::RES0.get(esr);

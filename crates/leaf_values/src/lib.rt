@@ -28,6 +28,7 @@ const ISS_WIDTH: u8 = 25;
 // Fields up to this width are looked at whole.
 const NARROW: u8 = 6;
 
+// Kept as two parameters: each public function takes any number and ISS, and its promise is of both.
 pub fn leaf_count(number: u8, iss: u64) -> usize
     ensures { LeafCount (number, iss) result }
 {
@@ -59,10 +60,8 @@ pub fn same_sets(number: u8, iss: u64, second: u8, other: u64) -> bool
     ensures { SameSets (number, iss, second, other) result }
 {
     let count = leaf_count(number, iss);
-    if leaf_count(second, other) != count {
-        return false;
-    }
-    (0..count).all(|i| same_row(leaf_row(number, iss, i), leaf_row(second, other, i)))
+    leaf_count(second, other) == count
+        && (0..count).all(|i| same_row(leaf_row(number, iss, i), leaf_row(second, other, i)))
 }
 
 pub fn same_leaves(number: u8, iss: u64, other: u64) -> bool
@@ -77,15 +76,15 @@ pub fn room_of(width: u8) -> u64
     1 << width.min(NARROW)
 }
 
-// An ISS with another value in a field.
-fn put_at(iss: u64, start: u8, width: u8, x: u64) -> u64
-    requires { (start + width ≤ 25) × (x < 64) }
-    ensures { result ≡ put_at iss start width x }
+// An ISS with another value in the field of a row.
+fn put_at(iss: u64, row: Row, x: u64) -> u64
+    requires { (row.start + row.width ≤ 25) × (x < 64) }
+    ensures { result ≡ put_at iss row.start row.width x }
 {
-    let end = start + width;
-    let low = records::field(iss, 0, start);
+    let end = row.start + row.width;
+    let low = records::field(iss, 0, row.start);
     let high = records::field(iss, end, ISS_WIDTH - end);
-    low + (x << start) + (high << end)
+    low + (x << row.start) + (high << end)
 }
 
 // Whether a value may stand at the leaf of an index.
@@ -93,14 +92,11 @@ pub fn may_be(number: u8, iss: u64, index: usize, x: u64) -> bool
     ensures { MayBe (number, iss, index, x) result }
 {
     let row = leaf_row(number, iss, index);
-    if room_of(row.width) <= x {
-        return false;
-    }
-    let other = put_at(iss, row.start, row.width, x);
-    if !row.meets(other) {
-        return false;
-    }
-    same_leaves(number, other, iss)
+    x < room_of(row.width)
+        && {
+            let other = put_at(iss, row, x);
+            row.meets(other) && same_leaves(number, other, iss)
+        }
 }
 
 // Whether every value of the leaf's width may stand there.
