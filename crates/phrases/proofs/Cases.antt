@@ -1,7 +1,7 @@
 -- What the definitions give under the tests that the code made; and a phrase lies inside its sheet and is counted by a byte, by one induction
 -- on the phrases.
 use Prim.Native.Nat.{ℕ, zero, suc, ◌+◌, ◌-◌, ◌≤◌, ◌<◌}
-use mathlib.Core.Bool.{Bool, true, false, cond}
+use mathlib.Core.Bool.{Bool, true, false, cond, not}
 use mathlib.Core.List.{List}
 use mathlib.Core.Path.{◌≡◌, refl, ap, subst, ◌∙◌}
 use native.Mathlib.Omega.{arith}
@@ -14,12 +14,13 @@ use Rattle.phrases.specs.declared.Found.{Found}
 use Rattle.phrases.specs.declared.Place.{Place}
 use Rattle.phrases.specs.declared.Sheet.{Sheet}
 use Rattle.phrases.specs.declared.Sheet.TheVariants.{Workshop, Standard}
-use Rattle.refusals.specs.Refusals.{bare, is_refused, passed}
+use Rattle.refusals.specs.Refusals.{bare, checked, passed}
 use Rattle.refusals.specs.declared.Reason.{Reason}
 use Rattle.refusals.specs.declared.Reason.TheVariants.{None, ShortSheet, BadSheetVersion, LongPhrase}
 use Rattle.refusals.specs.declared.Refusal.{Refusal}
 use Rattle.refusals.proofs.Cases.{passed-is, refused-is}
-use Rattle.std.specs.Prelude.{Option, Some, None as Nothing, IfSome}
+use Rattle.std.specs.Prelude.{Option, Some, None as Nothing, IfSome, Result, Ok, Err}
+use Rattle.std.specs.Result.{is_ok, is_err}
 
 -- The judgement.
 
@@ -46,14 +47,28 @@ module _ (s : List ℕ) (n : ℕ) (e : n ≡ word_at s 0) (two : 2 ≤ length s)
       unfolding judged
       judged_phrases v = rw (← e) (simp (le-ltb _ _ two, ne_eqb _ _ some, le-ltb _ _ whole, eq-eqb _ _ v))
 
--- Whether sheets are sound, by whether the code found their refusal to be one.
+-- Whether sheets are sound, by what the code was told of them.
 
-module _ {f : Refusal} {refused : Bool} {why : Reason} (is : f ≡ bare why) (by : refused ≡ is_refused f) where
-  pub sound_by : refused ≡ false → passed (bare why) ≡ true
-  sound_by h = passed-is (bare why) (by ∙ ap is_refused is) h
+ok_by : (f : Refusal) (p : Bool) → is_ok {T = Unit} (cond p (Ok tt) (Err f)) ≡ p
+ok_by f true = refl
+ok_by f false = refl
 
-  pub unsound-by : refused ≡ true → passed (bare why) ≡ false
-  unsound-by h = refused-is (bare why) (by ∙ ap is_refused is) h
+err_by : (f : Refusal) (p : Bool) → is_err {T = Unit} (cond p (Ok tt) (Err f)) ≡ not p
+err_by f true = refl
+err_by f false = refl
+
+module _ (why : Reason) {r : Result Unit Refusal} (is : r ≡ checked (bare why)) {b : Bool} where
+  pub told_ok : b ≡ is_ok r → b ≡ passed (bare why)
+  told_ok told = told ∙ ap is_ok is ∙ ok_by (bare why) (passed (bare why))
+
+  told-err : b ≡ is_err r → b ≡ not (passed (bare why))
+  told-err told = told ∙ ap is_err is ∙ err_by (bare why) (passed (bare why))
+
+  pub sound_by : b ≡ is_err r → b ≡ false → passed (bare why) ≡ true
+  sound_by told h = passed-is (bare why) (told-err told) h
+
+  pub unsound-by : b ≡ is_err r → b ≡ true → passed (bare why) ≡ false
+  unsound-by told h = refused-is (bare why) (told-err told) h
 
 -- Where a phrase lies: what holds of each whole phrase, by what is left before it, holds of the one that is found.
 

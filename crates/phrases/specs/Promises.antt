@@ -1,17 +1,17 @@
 -- What each public function promises. A promise takes what comes in, then what comes out.
-use Rattle.std.specs.Prelude.{ℕ, Bool, List, Option, ◌≡◌}
+use Rattle.std.specs.Prelude.{ℕ, Bool, List, Option, Result, ◌≡◌}
 use Rattle.entry.specs.Entries.{Part}
 use Rattle.phrases.specs.Sheets.{judged, judged_both, find_in, has_phrase, phrase_in}
 use Rattle.phrases.specs.declared.Found.{Found}
-use Rattle.refusals.specs.Refusals.{bare}
+use Rattle.refusals.specs.Refusals.{bare, checked}
 use Rattle.refusals.specs.declared.Refusal.{Refusal}
 
 -- why a sheet is refused, if it is; of two, the workshop's first
-abbrev pub SheetRefusal : List ℕ → Refusal → Type 0
-SheetRefusal sheet r = r ≡ bare (judged sheet)
+abbrev pub SheetRefusal : List ℕ → Result Unit Refusal → Type 0
+SheetRefusal sheet r = r ≡ checked (bare (judged sheet))
 
-abbrev pub SheetsRefusal : List ℕ × List ℕ → Refusal → Type 0
-SheetsRefusal (workshop, standard) r = r ≡ bare (judged_both workshop standard)
+abbrev pub SheetsRefusal : List ℕ × List ℕ → Result Unit Refusal → Type 0
+SheetsRefusal (workshop, standard) r = r ≡ checked (bare (judged_both workshop standard))
 
 -- where the phrase of a code lies
 abbrev pub Finds : List ℕ × List ℕ × ℕ → Option Found → Type 0

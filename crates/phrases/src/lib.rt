@@ -15,6 +15,7 @@ const VERSION: u8 = 1;
 const FIRST: usize = 3;
 
 // Where a phrase of one sheet lies: its bytes are start .. start + count of the sheet.
+// Kept as two numbers (C interface), here and in `Found`: `esr_phrase` answers them, and `Finds` promises a `Found`.
 #[derive(Clone, Copy)]
 pub struct Place {
     pub start: usize,
@@ -53,9 +54,7 @@ fn word(s: &[u8], at: usize) -> u16
     requires { at + 1 < length s.now }
     ensures { result ≡ word_at s.now at }
 {
-    let high = s[at] as u16;
-    let low = s[at + 1] as u16;
-    high * 256 + low
+    u16::from_be_bytes([s[at], s[at + 1]])
 }
 
 // The phrase at an offset, its code and its place, where the phrases end at another; or why it is refused.
@@ -113,23 +112,18 @@ fn judge(sheet: &[u8]) -> Result<(), Reason>
 }
 
 // Why a sheet is refused, by 26 to 29, if it is.
-pub fn sheet_refusal(sheet: &[u8]) -> Refusal
+pub fn sheet_refusal(sheet: &[u8]) -> Result<(), Refusal>
     ensures { SheetRefusal sheet.now result }
 {
-    match judge(sheet) {
-        Ok(()) => Refusal::NONE,
-        Err(reason) => Refusal::carrying(reason, 0),
-    }
+    judge(sheet).map_err(|reason| Refusal::carrying(reason, 0))
 }
 
 // The workshop's sheet first, and wholly.
-pub fn sheets_refusal(workshop: &[u8], standard: &[u8]) -> Refusal
+// Kept: two sheets, which `SheetsRefusal` names one by one, as C lends them to `esr_phrase`.
+pub fn sheets_refusal(workshop: &[u8], standard: &[u8]) -> Result<(), Refusal>
     ensures { SheetsRefusal (workshop.now, standard.now) result }
 {
-    let refusal = sheet_refusal(workshop);
-    if refusal.is_refused() {
-        return refusal;
-    }
+    sheet_refusal(workshop)?;
     sheet_refusal(standard)
 }
 
@@ -167,6 +161,7 @@ fn look(sheet: &[u8], code: u16) -> Option<Place>
 
 // For a caller that has judged the sheets, as a listing has, which looks many codes up. Of a sheet that is refused the
 // phrases count that stand before the first broken one.
+// Kept: two sheets, which `Finds` names one by one.
 pub fn find(workshop: &[u8], standard: &[u8], code: u16) -> Option<Found>
     ensures { Finds (workshop.now, standard.now, code) result }
 {
@@ -178,17 +173,19 @@ pub fn find(workshop: &[u8], standard: &[u8], code: u16) -> Option<Found>
 }
 
 // Whether a code has a phrase, which may be empty. Of sheets that are refused none has.
+// Kept: two sheets, which `HasPhrase` names one by one.
 pub fn has_phrase(workshop: &[u8], standard: &[u8], code: u16) -> bool
     ensures { HasPhrase (workshop.now, standard.now, code) result }
 {
-    !sheets_refusal(workshop, standard).is_refused() && find(workshop, standard, code).is_some()
+    sheets_refusal(workshop, standard).is_ok() && find(workshop, standard, code).is_some()
 }
 
 // The phrase as a part of the sheet that it came from; an empty part where there is none.
+// Kept: two sheets, which `Phrase` names one by one.
 pub fn phrase<'a>(workshop: &'a [u8], standard: &'a [u8], code: u16) -> &'a [u8]
     ensures { Phrase (lent workshop.entry, lent standard.entry, code) (lent result) }
 {
-    if sheets_refusal(workshop, standard).is_refused() {
+    if sheets_refusal(workshop, standard).is_err() {
         return &workshop[0..0];
     }
     let Some(found) = find(workshop, standard, code) else {

@@ -12,14 +12,14 @@ use Rattle.phrases.proofs.phrase.Goals as goal
 part-is : (sheet : Part) (f : Found) → part_at sheet f.start (f.start + f.count - f.start) ≡ part_of sheet f
 part-is sheet f = let e : f.start + f.count - f.start ≡ f.count = omega arith in rw e
 
-pub returns-then-is_refused : goal.returns-then-is_refused
+pub returns-then-is_err : goal.returns-then-is_err
 unfolding phrase_in
-returns-then-is_refused c = rw (unsound-by c.sheets_refusal.ensures c.is_refused.ensures c.if-is_refused.true)
+returns-then-is_err c = rw (unsound-by _ c.sheets_refusal.ensures c.is_err.ensures.value c.if-is_err.true)
 
 pub returns-in_default : goal.returns-in_default
 unfolding phrase_in part_found
 returns-in_default c =
-    rw (sound_by c.sheets_refusal.ensures c.is_refused.ensures c.if-is_refused.false, sym c.find.ensures ∙ c.in_default.is)
+    rw (sound_by _ c.sheets_refusal.ensures c.is_err.ensures.value c.if-is_err.false, sym c.find.ensures ∙ c.in_default.is)
 
 pub overflow_add-result : goal.overflow_add-result
 overflow_add-result c =
@@ -32,7 +32,7 @@ slice_bounds-result-end-in-Workshop c =
 pub returns-in-Workshop : goal.returns-in-Workshop
 unfolding phrase_in part_found
 returns-in-Workshop c =
-    let sound = sound_by c.sheets_refusal.ensures c.is_refused.ensures c.if-is_refused.false in
+    let sound = sound_by _ c.sheets_refusal.ensures c.is_err.ensures.value c.if-is_err.false in
     rw (sound, sym c.find.ensures ∙ c.in-Some.is, c.in-Workshop.is) (part-is (lent c.args.workshop) c.in-Some.found)
 
 pub overflow_add-result-in-Standard : goal.overflow_add-result-in-Standard
@@ -46,5 +46,5 @@ slice_bounds-result-end-in-Standard c =
 pub returns-in-Standard : goal.returns-in-Standard
 unfolding phrase_in part_found
 returns-in-Standard c =
-    let sound = sound_by c.sheets_refusal.ensures c.is_refused.ensures c.if-is_refused.false in
+    let sound = sound_by _ c.sheets_refusal.ensures c.is_err.ensures.value c.if-is_err.false in
     rw (sound, sym c.find.ensures ∙ c.in-Some.is, c.in-Standard.is) (part-is (lent c.args.standard) c.in-Some.found)
