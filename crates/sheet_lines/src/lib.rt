@@ -6,7 +6,7 @@ ghost use Rattle.std.specs.Prelude.{◌≤◌, length, ◌≡◌};
 ghost use Rattle.sheet_lines.specs.Lines.{text_start};
 ghost use Rattle.sheet_lines.specs.Promises.{CodeLinePut, LineTaken};
 
-use buffer::{put_bytes, put_text};
+use buffer::{put_bytes, put_code};
 use digits::Base;
 
 // Why a line is no phrase.
@@ -41,11 +41,9 @@ pub fn put_code_line(buf: &mut [u8], at: usize, code: u16) -> usize
     if !sheets::is_records(number) {
         return at;
     }
-    let starts = texts::text_starts();
-    let pool = texts::pool_bytes();
     let a = digits::put_number(buf, at, Base::Decimal, number);
     let b = put_bytes(buf, a, b" ");
-    let c = put_text(buf, b, &pool, &starts, code);
+    let c = put_code(buf, b, code);
     put_bytes(buf, c, b"\n")
 }
 

@@ -1,19 +1,19 @@
 -- The phrases of codes in order: they grow by one code's at each turn of a loop, and a phrase is its head and its text. How long all are is computed.
 use Prim.Native.Nat.{ℕ, zero, suc, ◌+◌, ◌-◌, ◌/◌, ◌%◌, ◌^◌, ◌≤◌, ◌<◌}
-use mathlib.Core.Bool.{Bool, true, false, cond, ◌&&◌}
+use mathlib.Core.Bool.{true, false}
 use mathlib.Core.List.{List, [], ◌∷◌, ◌++◌, append-nil, append_assoc}
 use mathlib.Core.Path.{◌≡◌, refl, sym, ap, ◌∙◌}
 use native.Mathlib.Nat.{add-zero, add-suc, suc-add}
 use native.Mathlib.Omega.{arith}
-use borrow.Author.Tests.{eq-eqb, ne_eqb, le-leb}
 use lib.Dec.{T, leb, leb→le}
-use lib.ListN.{length}
+use lib.ListN.{length, get_or}
+use Rattle.std.specs.Int.{to_be_bytes, w16}
 use Rattle.phrases.specs.Writing.{phrase_bytes, phrases_bytes, sheet_bytes}
 use Rattle.registers.specs.Registers.{registers}
 use Rattle.sheets.specs.Standard.{is_message, is_records, phrase_at, phrases_at, standard_phrases, standard_sheet}
 use Rattle.texts.specs.Names.{names}
 use Rattle.texts.specs.Rules.{rules}
-use Rattle.texts.specs.Pool.{name_room, codes_of, first_of, texts, described, by_value, text_in, text_at, bytes, bytes_at}
+use Rattle.texts.specs.Pool.{codes_of, first_of, texts, described, by_value, text_in, text_at, bytes, bytes_at}
 
 -- One code more.
 
@@ -42,31 +42,22 @@ pub none_yet : (first : ℕ) → phrases_bytes (phrases_at first (first - first)
 unfolding phrases_at phrases_bytes
 none_yet first = let e : first - first ≡ 0 = omega arith in rw e
 
--- A phrase, by the tests of the code.
+-- A phrase, by whether a record can have the text of its code.
 
 module _ (code : ℕ) where
-  pub no_message : is_message code ≡ true → phrases_bytes (phrase_at code) ≡ []
-  unfolding phrase_at is_records phrases_bytes
-  no_message m = rw m (by (leb name_room code))
-    where
-      by : (b : Bool) → phrases_bytes (cond (b && false) ((code, bytes_at code) ∷ []) []) ≡ []
-      by true = refl
-      by false = refl
+  pub no_text : is_records code ≡ false → phrases_bytes (phrase_at code) ≡ []
+  unfolding phrase_at phrases_bytes
+  no_text h = rw h
 
-  module _ (free : is_message code ≡ false) where
-    pub no_text : length (bytes_at code) ≡ 0 → phrases_bytes (phrase_at code) ≡ []
-    unfolding phrase_at is_records phrases_bytes
-    no_text z = rw (free, eq-eqb (length (bytes_at code)) 0 z) (by (leb name_room code))
-      where
-        by : (b : Bool) → phrases_bytes (cond (b && false) ((code, bytes_at code) ∷ []) []) ≡ []
-        by true = refl
-        by false = refl
+  pub a-text : is_records code ≡ true
+      → phrases_bytes (phrase_at code) ≡ (code / 256 ∷ code % 256 ∷ length (bytes_at code) ∷ []) ++ bytes_at code
+  unfolding phrase_at phrases_bytes
+  a-text h = rw h (append-nil (phrase_bytes (code, bytes_at code)))
 
-    pub a-text : (length (bytes_at code) ≡ 0 → ⊥) → name_room ≤ code
-        → phrases_bytes (phrase_at code) ≡ (code / 256 ∷ code % 256 ∷ length (bytes_at code) ∷ []) ++ bytes_at code
-    unfolding phrase_at is_records phrases_bytes
-    a-text some past =
-        rw (le-leb name_room code past, free, ne_eqb (length (bytes_at code)) 0 some) (append-nil (phrase_bytes (code, bytes_at code)))
+-- the two bytes of a number that has no more, by the method that gives them
+pub two-bytes : {n : ℕ} {bs : List ℕ} → bs ≡ to_be_bytes w16 n → n < 65536
+    → (get_or bs 0 0 ≡ n / 256) × (get_or bs 1 0 ≡ n % 256)
+two-bytes e h = rw e (omega arith, refl)
 
 -- What is computed: where the words of messages lie, how many codes there are, and that two bytes count the phrases.
 

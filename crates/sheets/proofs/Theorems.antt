@@ -94,7 +94,7 @@ records-small code h = by (ltb code (length texts)) refl
     by true e = omega (arith, ltb-true code (length texts) e, codes)
     by false e = absurd (subst T (sym h ∙ no_more code (ltb-false code (length texts) e)) tt)
 
-pub no_words : (code : ℕ) → is_message code ≡ true → is_records code ≡ false
+pub no_words : (code : ℕ) → not (is_message code) ≡ false → is_records code ≡ false
 unfolding is_records
 no_words code m = rw m (by (leb name_room code))
   where
@@ -102,7 +102,8 @@ no_words code m = rw m (by (leb name_room code))
     by true = refl
     by false = refl
 
-pub by_length : (code : ℕ) → name_room ≤ code → is_message code ≡ false → is_records code ≡ not (eqb (length (bytes_at code)) 0)
+pub by_length : (code : ℕ) → name_room ≤ code → not (is_message code) ≡ true
+    → is_records code ≡ not (eqb (length (bytes_at code)) 0)
 unfolding is_records
 by_length code past free = rw (le-leb name_room code past, free)
 

@@ -2,7 +2,6 @@
 use mathlib.Core.Path.{sym, ◌∙◌}
 use native.Mathlib.Omega.{arith}
 use Rattle.buffer.proofs.Appending.{none, and_then}
-use Rattle.buffer.proofs.Lent.{lent-text}
 use Rattle.texts.specs.Pool.{bytes}
 use Rattle.sheet_lines.proofs.Laws.{no_line, a-line}
 use Rattle.sheet_lines.proofs.put_code_line.Goals as goal
@@ -17,9 +16,7 @@ pub returns : goal.returns
 unfolding bytes
 returns c =
     let a = c.args in
-    let own = lent-text a.code (record { whole = c.pool_bytes-pool.ensures; each = c.text_starts-starts.ensures }) in
-    let text = rw own at c.put_text-c.ensures in
     let there = rw c.from-number.ensures at c.is_records.ensures in
     let number = rw c.from-number.ensures at c.put_number-a.ensures in
     rw (a-line a.code (sym there ∙ c.if-not-is_records.false))
-    (and_then number (and_then c.put_bytes-b.ensures (and_then text c.put_bytes.ensures)))
+    (and_then number (and_then c.put_bytes-b.ensures (and_then c.put_code-c.ensures c.put_bytes.ensures)))

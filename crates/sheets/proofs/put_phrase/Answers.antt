@@ -1,36 +1,21 @@
--- By whether the code is a message's and has a text; a phrase is two appenders, its head and its text. A text is
+-- By whether a record can have the text of the code; a phrase is two appenders, its head and its text. A text is
 -- counted by a byte.
 use mathlib.Core.Path.{sym, ◌∙◌}
 use native.Mathlib.Omega.{arith}
 use Rattle.buffer.proofs.Appending.{none, and_then}
-use Rattle.buffer.proofs.Lent.{lent_length, lent-text}
 use Rattle.texts.proofs.Laws.{text-short}
-use Rattle.sheets.proofs.Laws.{no_message, no_text, a-text}
+use Rattle.sheets.proofs.Laws.{no_text, a-text, two-bytes}
 use Rattle.sheets.proofs.put_phrase.Goals as goal
 
-pub returns-then-is_message : goal.returns-then-is_message
-returns-then-is_message c =
-    let a = c.args in
-    rw (no_message a.code (sym c.is_message.ensures ∙ c.if-is_message.true)) (none (omega arith))
+pub returns-then-not-is_told : goal.returns-then-not-is_told
+returns-then-not-is_told c =
+    rw (no_text c.args.code (sym c.is_told.ensures ∙ c.if-not-is_told.true)) (none (omega arith))
 
--- The count is the text's length.
-pub returns-then-count-eq0 : goal.returns-then-count-eq0
-returns-then-count-eq0 c =
-    let a = c.args in
-    let counted = lent_length a.starts.now a.code c.length_in-count.result c.requires.0.each c.length_in-count.ensures in
-    let free = sym c.is_message.ensures ∙ c.if-is_message.false in
-    rw (no_text a.code free (sym counted ∙ c.if-count-eq0.true)) (none (omega arith))
-
-pub overflow_cast-head-3 : goal.overflow_cast-head-3
-overflow_cast-head-3 c =
-    let a = c.args in
-    let counted = lent_length a.starts.now a.code c.length_in-count.result c.requires.0.each c.length_in-count.ensures in
-    omega (arith, counted, text-short a.code)
+pub overflow_cast-head : goal.overflow_cast-head
+overflow_cast-head c = omega (arith, c.length_of.ensures, text-short c.args.code)
 
 pub returns : goal.returns
 returns c =
-    let a = c.args in
-    let counted = lent_length a.starts.now a.code c.length_in-count.result c.requires.0.each c.length_in-count.ensures in
-    let free = sym c.is_message.ensures ∙ c.if-is_message.false in
-    let is = a-text a.code free (λ z. c.if-count-eq0.false (counted ∙ z)) c.requires.1 in
-    rw (is, ← counted) (and_then c.put_bytes-a.ensures (rw (lent-text a.code c.requires.0) at c.put_text.ensures))
+    let code = two-bytes c.to_be_bytes.ensures (omega arith) in
+    let head = rw (code.0, code.1, c.length_of.ensures) at c.put_bytes-a.ensures in
+    rw (a-text c.args.code (sym c.is_told.ensures ∙ c.if-not-is_told.false)) (and_then head c.put_code.ensures)

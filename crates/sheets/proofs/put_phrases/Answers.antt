@@ -9,9 +9,6 @@ use Rattle.sheets.proofs.put_phrases.Goals as goal
 pub loop-code-init : goal.loop-code-init
 loop-code-init c = (rw (none_yet 128) (none (omega arith)), refl)
 
-pub put_phrase-next-requires : goal.put_phrase-next-requires
-put_phrase-next-requires c = (c.requires, omega arith)
-
 pub loop-code-preserved : goal.loop-code-preserved
 loop-code-preserved c =
     let l = c.loop-code in

@@ -6,14 +6,8 @@ use Rattle.sheets.proofs.Laws.{phrases_fit, sheet-small}
 use Rattle.written.proofs.Kept.{exit, by_shortness, by_writing}
 use Rattle.sheets.proofs.standard_sheet.Goals as goal
 
-pub put_phrases-count-requires : goal.put_phrases-count-requires
-put_phrases-count-requires c = record { whole = c.pool_bytes-pool.ensures; each = c.text_starts-starts.ensures }
-
 pub put_sheet-requires : goal.put_sheet-requires
-put_sheet-requires c = (
-  record { whole = c.pool_bytes-pool.ensures; each = c.text_starts-starts.ensures },
-  measured c.put_phrases-count.ensures (omega (arith, phrases_fit)),
-)
+put_sheet-requires c = measured c.put_phrases-count.ensures (omega (arith, phrases_fit))
 
 pub returns-in_err-bytes : goal.returns-in_err-bytes
 returns-in_err-bytes c =
@@ -21,10 +15,7 @@ returns-in_err-bytes c =
     (exit c.from_residual.ensures)
 
 pub put_sheet-requires-2 : goal.put_sheet-requires-2
-put_sheet-requires-2 c = (
-  record { whole = c.pool_bytes-pool.ensures; each = c.text_starts-starts.ensures },
-  measured c.put_phrases-count.ensures (omega (arith, phrases_fit)),
-)
+put_sheet-requires-2 c = measured c.put_phrases-count.ensures (omega (arith, phrases_fit))
 
 pub returns : goal.returns
 returns c =
