@@ -8,14 +8,13 @@ use native.Mathlib.Nat.{add-zero, add-suc, suc-add}
 use native.Mathlib.Omega.{arith}
 use borrow.Author.Tests.{lt-ltb, le-ltb, ltb-true, ltb-false}
 use lib.Dec.{ltb}
-use lib.ListN.{length, get_or, take, drop, length-drop}
+use lib.ListN.{length, take, drop, length-drop}
 use lib.Seq.{take_all}
 use Rattle.buffer.specs.Appending.{Appends, appended}
 use Rattle.number.specs.Rest.{read_of}
 use Rattle.phrases.specs.Writing.{phrase_bytes}
 use Rattle.refusals.specs.declared.Refusal.{Refusal}
 use Rattle.number.specs.declared.NumberRead.{NumberRead}
-use Rattle.std.specs.Int.{to_be_bytes, w16}
 use Rattle.std.specs.Prelude.{Result, Ok, Err}
 use Rattle.sheet_lines.proofs.Laws.{taken-within}
 use Rattle.sheet_lines.specs.Lines.{code_line, taken_by, taken_of, text_start}
@@ -83,11 +82,6 @@ pub phrase-parts : (code : ℕ) (line : List ℕ) (start : ℕ)
 phrase-parts code line start =
     let long : length (drop start line) ≡ length line - start = length-drop start line in
     rw (long, take_all (length line - start) (drop start line) (omega (arith, long)))
-
--- the bytes of a number of 16 bits, the higher first
-pub two-bytes : {n : ℕ} {bs : List ℕ} → bs ≡ to_be_bytes w16 n → n < 65536
-    → (get_or bs 0 0 ≡ n / 256) × (get_or bs 1 0 ≡ n % 256)
-two-bytes e h = rw e (omega arith, refl)
 
 -- Two bytes count the phrases, or they do not.
 

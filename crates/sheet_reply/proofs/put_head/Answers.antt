@@ -1,7 +1,8 @@
 -- By whether a sheet can count the phrases.
 use native.Mathlib.Omega.{arith}
 use Rattle.buffer.proofs.Appending.{none}
-use Rattle.sheet_reply.proofs.Laws.{no_head, a_head, two-bytes}
+use Rattle.sheets.proofs.Laws.{two-bytes}
+use Rattle.sheet_reply.proofs.Laws.{no_head, a_head}
 use Rattle.sheet_reply.proofs.put_head.Goals as goal
 
 pub returns-then-count-gt-PHRASES_MAX : goal.returns-then-count-gt-PHRASES_MAX

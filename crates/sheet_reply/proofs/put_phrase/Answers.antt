@@ -1,7 +1,8 @@
 -- Two appenders: the head, and the rest of the line, which a byte counts.
 use native.Mathlib.Omega.{arith}
 use Rattle.buffer.proofs.Appending.{and_then}
-use Rattle.sheet_reply.proofs.Laws.{phrase-parts, two-bytes}
+use Rattle.sheets.proofs.Laws.{two-bytes}
+use Rattle.sheet_reply.proofs.Laws.{phrase-parts}
 use Rattle.sheet_reply.proofs.put_phrase.Goals as goal
 
 pub returns : goal.returns
