@@ -1,14 +1,14 @@
 -- The outcome of each public function by the tests that the code makes, in its order.
 use mathlib.Core.Bool.{true, false}
 use mathlib.Core.List.{List}
-use mathlib.Core.Path.{◌≡◌, sym, ap, ◌∙◌, subst}
+use mathlib.Core.Path.{◌≡◌, sym, ◌∙◌, subst}
 use Prim.Native.Nat.{ℕ, ◌≤◌, ◌<◌}
 use native.Mathlib.Omega.{arith}
 use borrow.Author.Tests.{lt-ltb, le-ltb}
 use lib.ListN.{length, get_or}
 use lib.Seq.{get_or-take, length-take-le}
 use Rattle.std.specs.Prelude.{Result, Ok, Err}
-use Rattle.refusals.specs.Refusals.{bare, carrying, checked, passed}
+use Rattle.refusals.specs.Refusals.{bare, carrying, checked}
 use Rattle.refusals.specs.declared.Refusal.{Refusal}
 use Rattle.refusals.proofs.Cases.{check-ok, check-err, check-same}
 use Rattle.phrases.specs.Sheets.{both_sound, judged_both, text_in}
@@ -38,20 +38,21 @@ module _ (esr : ℕ) {a : Answer} {u : Result Unit Refusal} (is : a ≡ answer_o
   unfolding listing_with_of
   with_no workshop standard h = rw (← is, check-err a.refusal checks h, check-same a.refusal checks h)
 
-  module _ (workshop standard : List ℕ) {v : Unit {0}} (decoded : u ≡ Ok v) {f : Refusal} {w : Result Unit Refusal}
-      (judged : f ≡ bare (judged_both workshop standard)) (told : w ≡ checked f) where
+  module _ (workshop standard : List ℕ) {v : Unit {0}} (decoded : u ≡ Ok v) {w : Result Unit Refusal}
+      (told : w ≡ checked (bare (judged_both workshop standard))) where
     pub with_bad : {g : Refusal} → w ≡ Err g → listing_with_of esr workshop standard ≡ refused g
     unfolding listing_with_of
     with_bad h =
-        let no : both_sound workshop standard ≡ false = ap passed (sym judged) ∙ check-err f told h in
-        rw (← is, check-ok a.refusal checks decoded, no, ← judged, check-same f told h)
+        let bad : Refusal = bare (judged_both workshop standard) in
+        let no : both_sound workshop standard ≡ false = check-err bad told h in
+        rw (← is, check-ok a.refusal checks decoded, no, check-same bad told h)
 
     pub with_yes : {y : Unit {0}} → w ≡ Ok y
         → listing_with_of esr workshop standard
         ≡ text (listing_with bytes_at (text_in workshop standard) (list_of a.records))
     unfolding listing_with_of
     with_yes h =
-        let yes : both_sound workshop standard ≡ true = ap passed (sym judged) ∙ check-ok f told h in
+        let yes : both_sound workshop standard ≡ true = check-ok (bare (judged_both workshop standard)) told h in
         rw (← is, check-ok a.refusal checks decoded, yes)
 
   pub line_refused : {g : Refusal} → u ≡ Err g → (index : ℕ) → record_line esr index ≡ refused g

@@ -22,8 +22,8 @@ pub fn record_line(esr: u64, index: usize, buf: &mut [u8]) -> Result<usize, Refu
     let item = answer.records.at(index);
     let starts = texts::text_starts();
     let pool = texts::pool_bytes();
-    let bytes = room_for(put_line(&mut [], 0, &pool, &starts, item), buf)?;
-    put_line(buf, 0, &pool, &starts, item);
+    let bytes = room_for(put_line(&mut [], 0, pool, starts, item), buf)?;
+    put_line(buf, 0, pool, starts, item);
     Ok(bytes)
 }
 
@@ -34,12 +34,13 @@ pub fn listing(esr: u64, buf: &mut [u8]) -> Result<usize, Refusal>
     answer.refusal.check()?;
     let starts = texts::text_starts();
     let pool = texts::pool_bytes();
-    let bytes = room_for(put_listing(&mut [], 0, &pool, &starts, answer.records), buf)?;
-    put_listing(buf, 0, &pool, &starts, answer.records);
+    let bytes = room_for(put_listing(&mut [], 0, pool, starts, answer.records), buf)?;
+    put_listing(buf, 0, pool, starts, answer.records);
     Ok(bytes)
 }
 
 // The listing with the texts of two sheets (#112), which are judged once, after the value.
+// Kept: two sheets, which `ListingWith` names one by one, as C lends them to `esr_listing_with`.
 pub fn listing_with(
     esr: u64,
     workshop: &[u8],
@@ -50,20 +51,11 @@ pub fn listing_with(
 {
     let answer = esr::decode(esr);
     answer.refusal.check()?;
-    let bad = phrases::sheets_refusal(workshop, standard);
-    bad.check()?;
+    phrases::sheets_refusal(workshop, standard)?;
     let starts = texts::text_starts();
     let pool = texts::pool_bytes();
-    let measured = put_listing_with(
-        &mut [],
-        0,
-        &pool,
-        &starts,
-        workshop,
-        standard,
-        answer.records,
-    );
+    let measured = put_listing_with(&mut [], 0, pool, starts, workshop, standard, answer.records);
     let bytes = room_for(measured, buf)?;
-    put_listing_with(buf, 0, &pool, &starts, workshop, standard, answer.records);
+    put_listing_with(buf, 0, pool, starts, workshop, standard, answer.records);
     Ok(bytes)
 }

@@ -23,7 +23,7 @@ pub fn put_listed(buf: &mut [u8], at: usize, profile: Profile, esr: u64) -> usiz
     }
     let pool = texts::pool_bytes();
     let starts = texts::text_starts();
-    put_listing(buf, at, &pool, &starts, answer.records)
+    put_listing(buf, at, pool, starts, answer.records)
 }
 
 // A line that holds no number is named by its number among the lines, since its bytes are not kept.
@@ -58,6 +58,7 @@ pub fn put_listing_reply(
 }
 
 // The sheets are judged after the value.
+// Two sheets, no plainer as a struct: they go on to `sheets_refusal` and `put_listing_with`, which take each by itself.
 fn put_listed_with(
     buf: &mut [u8],
     at: usize,
@@ -72,16 +73,16 @@ fn put_listed_with(
     if decoded.refusal.is_refused() {
         return put_refusal(buf, at, decoded.refusal);
     }
-    let of_sheets = phrases::sheets_refusal(workshop, standard);
-    if of_sheets.is_refused() {
-        return put_refusal(buf, at, of_sheets);
+    if let Err(refusal) = phrases::sheets_refusal(workshop, standard) {
+        return put_refusal(buf, at, refusal);
     }
     let pool = texts::pool_bytes();
     let starts = texts::text_starts();
-    put_listing_with(buf, at, &pool, &starts, workshop, standard, decoded.records)
+    put_listing_with(buf, at, pool, starts, workshop, standard, decoded.records)
 }
 
 // The same reply with the texts of two sheets, the workshop's asked first.
+// Kept: two sheets, which `ListingWithReply` names one by one.
 pub fn put_listing_with_reply(
     buf: &mut [u8],
     at: usize,

@@ -30,11 +30,10 @@ pub returns-in_err-check : goal.returns-in_err-check
 returns-in_err-check c =
     by-refusal (with_no _ c.decode-answer.ensures c.check.ensures _ _ c.in_err-check.was) (exit c.from_residual.ensures)
 
-pub returns-in_err-check-2 : goal.returns-in_err-check-2
-returns-in_err-check-2 c =
+pub returns-in_err-sheets_refusal : goal.returns-in_err-sheets_refusal
+returns-in_err-sheets_refusal c =
     by-refusal
-    (with_bad _ c.decode-answer.ensures c.check.ensures _ _ c.in_ok-check.was c.sheets_refusal-bad.ensures
-    c.check-2.ensures c.in_err-check-2.was) (exit c.from_residual-in_err-check-2.ensures)
+    (with_bad _ c.decode-answer.ensures c.check.ensures _ _ c.in_ok-check.was c.sheets_refusal.ensures c.in_err-sheets_refusal.was) (exit c.from_residual-in_err-sheets_refusal.ensures)
 
 pub returns-in_err-bytes : goal.returns-in_err-bytes
 returns-in_err-bytes c =
@@ -44,8 +43,7 @@ returns-in_err-bytes c =
     let own = with_lent (record { whole = c.pool_bytes-pool.ensures; each = c.text_starts-starts.ensures })
     (text_in a.workshop.now a.standard.now) (list_of d.result.records) in
     by_shortness
-    (with_yes _ d.ensures c.check.ensures _ _ c.in_ok-check.was c.sheets_refusal-bad.ensures c.check-2.ensures
-    c.in_ok-check-2.was)
+    (with_yes _ d.ensures c.check.ensures _ _ c.in_ok-check.was c.sheets_refusal.ensures c.in_ok-sheets_refusal.was)
     (small a.esr a.workshop.now a.standard.now d.ensures long (λ i. (c.type_inv.workshop i).fits)
     (λ i. (c.type_inv.standard i).fits)) (rw own at c.put_listing_with-measured.ensures) c.room_for.ensures
     c.in_err-bytes.was (exit c.from_residual-in_err-bytes.ensures)
@@ -58,8 +56,7 @@ returns c =
     let own = with_lent (record { whole = c.pool_bytes-pool.ensures; each = c.text_starts-starts.ensures })
     (text_in a.workshop.now a.standard.now) (list_of d.result.records) in
     by_writing
-    (with_yes _ d.ensures c.check.ensures _ _ c.in_ok-check.was c.sheets_refusal-bad.ensures c.check-2.ensures
-    c.in_ok-check-2.was)
+    (with_yes _ d.ensures c.check.ensures _ _ c.in_ok-check.was c.sheets_refusal.ensures c.in_ok-sheets_refusal.was)
     (small a.esr a.workshop.now a.standard.now d.ensures long (λ i. (c.type_inv.workshop i).fits)
     (λ i. (c.type_inv.standard i).fits)) (rw own at c.put_listing_with-measured.ensures) c.room_for.ensures
     c.in_ok-bytes.was (rw own at c.put_listing_with.ensures) refl
