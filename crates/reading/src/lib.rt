@@ -32,7 +32,7 @@ fn sum_of(records: Records, from: usize, to: usize) -> u64
 {
     let mut sum: u64 = 0;
     for i in from..to {
-        sum = std::num::wrapping_add_u64(sum, shifted_back(records.items[i]));
+        sum = sum.wrapping_add(shifted_back(records.items[i]));
     }
     sum
 }
@@ -47,5 +47,5 @@ pub fn sum_back(records: Records) -> u64
     }
     let top = sum_of(records, 0, 4);
     let own = sum_of(records, 5, count);
-    std::num::wrapping_add_u64(top, own)
+    top.wrapping_add(own)
 }

@@ -69,6 +69,7 @@ impl Mark {
 }
 
 // The reason of a coded kind, by its index.
+// Kept, None for any other index: `refusal` takes any kind, and promises that reason of a kind past the list (`Refused`).
 fn reason_at(index: u8) -> Reason
     ensures { result ≡ reason_at index }
 {
@@ -217,6 +218,7 @@ impl Records {
         }
     }
 
+    // Kept, no Option: it is public and promises the empty record past the count (`At`), as a slot of the set holds it.
     pub fn at(self, index: usize) -> Record
         ensures { At (self, index) result }
     {

@@ -4,6 +4,8 @@
 ghost use Rattle.refusals.specs.Promises.{Carrying, Checked, IsRefused, Number, ValueNumber, ValuePlace};
 
 // The reasons, in the order of their numbers; None where nothing is refused.
+// Kept, the reason None: a public `Refusal` may refuse nothing, in the field of an `Answer`, which document 01 names, and
+// where a reply is told one (`IsRefused`, `Carrying`, `put_refusal`, `put_records_reply`).
 #[derive(Clone, Copy, PartialEq, Eq)]
 pub enum Reason {
     None,
@@ -134,6 +136,7 @@ const NUMBERS_IN_ORDER: [u8; VALUE_NUMBERS] = [1, 2, 3, 4, 5, 6, 7, 24, 25];
 pub const VALUE_NUMBERS: usize = 9;
 
 // The number at a place of these; 0 past the last.
+// Kept, no Option: it is public and promises the 0 (`ValueNumber`); the label of a survey's line is told by it.
 #[tactic(auto, using(std::proofs::lemmas::Option::get_or_from_slice_get), unfolding(crate::specs::Values::value_numbers))]
 pub fn value_number(place: usize) -> u8
     ensures { ValueNumber place result }

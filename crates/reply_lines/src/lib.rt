@@ -6,10 +6,10 @@ ghost use Rattle.buffer.specs.Appending.{Appends};
 ghost use Rattle.reply_lines.specs.Lines.{field_part};
 ghost use Rattle.reply_lines.specs.Promises.{CarriedLine, NumberLine, RefusalLine, RefusedPart, WhyPart};
 
-use buffer::{put_bytes, put_text};
+use buffer::{put_bytes, put_code};
 use digits::{Base, put_number};
-use refusals::Refusal;
-use strings::{RES0, put_message};
+use refusals::{Reason, Refusal};
+use strings::put_message;
 use texts::rules;
 
 pub fn put_number_line(buf: &mut [u8], at: usize, front: &[u8], base: Base, value: u64) -> usize
@@ -30,15 +30,13 @@ pub fn put_refused(buf: &mut [u8], at: usize, refusal: Refusal) -> usize
 pub fn put_why(buf: &mut [u8], at: usize, refusal: Refusal) -> usize
     ensures { WhyPart (buf.old, at, refusal) (result, buf.new) }
 {
-    let pool = texts::pool_bytes();
-    let starts = texts::text_starts();
     let number = refusal.number() as u64;
     if lookup::describes(rules::MESSAGE, number) {
         return put_message(
             buf,
             at,
-            &pool,
-            &starts,
+            texts::pool_bytes(),
+            texts::text_starts(),
             number,
             refusal.carries,
             refusal.start,
@@ -46,7 +44,7 @@ pub fn put_why(buf: &mut [u8], at: usize, refusal: Refusal) -> usize
         );
     }
     let code = lookup::text_code(rules::OWN_WORDS, number);
-    put_text(buf, at, &pool, &starts, code)
+    put_code(buf, at, code)
 }
 
 pub fn put_refusal(buf: &mut [u8], at: usize, refusal: Refusal) -> usize
@@ -59,11 +57,10 @@ pub fn put_refusal(buf: &mut [u8], at: usize, refusal: Refusal) -> usize
 }
 
 // Where the field starts that a refusal names, and its width.
-// Kept as a number: `field_part` and the messages' RES0 are told by it (`MessagePut`).
 fn put_field_part(buf: &mut [u8], at: usize, refusal: Refusal) -> usize
     ensures { Appends (field_part refusal) (at, buf.old) (result, buf.new) }
 {
-    if refusal.number() as u64 != RES0 {
+    if refusal.reason != Reason::InvalidRes0 {
         return at;
     }
     let mut next = put_bytes(buf, at, b" start=");

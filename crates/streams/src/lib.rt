@@ -16,6 +16,7 @@ pub const STDERR: i32 = 2;
 const NOTHING_HELD: usize = 0;
 
 // What a read answered, as one number: -1 where it failed.
+// Kept: it is public and promises the -1 (`Got`), of which `count_read` is told.
 pub fn got(answer: Option<usize>) -> isize
     ensures { Got answer result }
 {

@@ -94,7 +94,7 @@ impl Line {
         field.start == self.start
             && field.width == self.width
             && field.name == self.name
-            && field.mark.number() == self.mark.number()
+            && field.mark == self.mark
     }
 
     // Whether a record is one that this line asks of, and is not as it asks.

@@ -63,6 +63,7 @@ pub fn put_field(buf: &mut [u8], at: usize, width: u8, value: u64) -> usize
 }
 
 // START..END of 1's field, the end not counted.
+// Kept, no struct of start and width: `put_message` is lent them one by one (`MessagePut`), and this is its only call.
 fn put_bits(buf: &mut [u8], at: usize, number: u64, start: u8, width: u8) -> usize
     ensures { Appends (bits_text number start width) (at, buf.old) (result, buf.new) }
 {

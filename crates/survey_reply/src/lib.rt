@@ -138,14 +138,13 @@ pub fn read_count(line: &[u8]) -> Option<Count>
 pub fn add_count(totals: &mut [u64], place: usize, count: u64) -> bool
     ensures { CountAdded (totals.old, place, count) (result, totals.new) }
 {
-    let Some(total) = totals.get(place) else {
-        return false;
-    };
-    let Some(sum) = total.checked_add(count) else {
-        return false;
-    };
-    totals[place] = sum;
-    true
+    match totals.get(place).and_then(|total| total.checked_add(count)) {
+        Some(sum) => {
+            totals[place] = sum;
+            true
+        }
+        None => false,
+    }
 }
 
 // Adds counts, each to a place of its own, from a place on.

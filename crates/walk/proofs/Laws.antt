@@ -213,11 +213,12 @@ steps_fewer s = steps_length (sequences (entries_of s)) ∙ rw (length-map (entr
 -- Sequence numbers.
 
 module _ (last next : ℕ) (small : last < 65536) (below : next < 65536) where
-  pub skipped-is : (d r : ℕ) → d < 65536 → r < 65536 → (d + last) % 2 ^ 16 ≡ next → (r + 1) % 2 ^ 16 ≡ d → r ≡ skipped last next
+  pub skipped-is : ((next + (65536 - last)) % 65536 + 65535) % 65536 ≡ skipped last next
   unfolding skipped
-  skipped-is d r hd hr e f = by (eqb next last) refl
+  skipped-is = by (eqb next last) refl
     where
-      by : (b : Bool) → eqb next last ≡ b → r ≡ cond b 65535 ((next + 65536 - last) % 65536 - 1)
+      by : (b : Bool) → eqb next last ≡ b
+          → ((next + (65536 - last)) % 65536 + 65535) % 65536 ≡ cond b 65535 ((next + 65536 - last) % 65536 - 1)
       by true h = omega (arith, eqb-true next last h)
       by false h = let n = eqb-false next last h in omega arith
 

@@ -38,7 +38,7 @@ struct Counts {
 fn skipped_to(last: u16, next: u16) -> u16
     ensures { result ≡ skipped last next }
 {
-    std::num::wrapping_sub_u16(std::num::wrapping_sub_u16(next, last), 1)
+    next.wrapping_sub(last).wrapping_sub(1)
 }
 
 // What one value adds to the count of those that decode.

@@ -6,7 +6,7 @@ ghost use Rattle.buffer.specs.Appending.{Appends};
 ghost use Rattle.walk_lines.specs.Lines.{bad_end, meaning, numbers_part, place, sound_end, verdict};
 ghost use Rattle.walk_lines.specs.Promises.{CountLine, EndLine, EntryLine, StepLine};
 
-use buffer::{put_bytes, put_text};
+use buffer::{put_bytes, put_code};
 use digits::{Base, put_number};
 use entry::Entry;
 use refusals::Refusal;
@@ -50,10 +50,8 @@ fn put_meaning(buf: &mut [u8], at: usize, refusal: Refusal, esr: u64) -> usize
     if refusal.is_refused() {
         return put_why(buf, at, refusal);
     }
-    let pool = texts::pool_bytes();
-    let starts = texts::text_starts();
     let code = lookup::text_code(rules::CLASS_NAME, records::field(esr, 26, 6));
-    put_text(buf, at, &pool, &starts, code)
+    put_code(buf, at, code)
 }
 
 // The entry's value is read by a profile (#110).
@@ -95,6 +93,7 @@ pub fn put_count_line(buf: &mut [u8], at: usize, entries: usize, decoded: usize)
     put_number_line(buf, next, b", decoded ", Base::Decimal, decoded as u64)
 }
 
+// Kept, the block's length and no block: `put_end_line` promises it of any length (`EndLine`).
 fn put_sound_end(buf: &mut [u8], at: usize, length: usize, offset: usize) -> usize
     ensures { Appends (sound_end length offset) (at, buf.old) (result, buf.new) }
 {

@@ -25,6 +25,7 @@ fn step_at(steps: &[u16], i: usize) -> u16
     steps.get(i).copied().unwrap_or(0)
 }
 
+// Kept, a count: it is what `walk` promises (`Walked`); a slice of whole entries would be cut by it, and be no plainer.
 fn put_entries(
     buf: &mut [u8],
     at: usize,

@@ -15,14 +15,6 @@ module _ (w v : ℕ) where
   whole : 1 ≤ w → v / 2 ^ (w - 1) / 2 ^ 1 ≡ v / 2 ^ w
   whole h = let e : (w - 1) + 1 ≡ w = omega arith in shr-shr v (w - 1) 1 ∙ ap (λ (k : ℕ). v / 2 ^ k) e
 
-  pub no_width : w < 1 → fits w v ≡ false
-  unfolding fits
-  no_width h = rw (lt-leb 1 w h)
-
-  pub wide_width : 1 ≤ w → 64 < w → fits w v ≡ false
-  unfolding fits
-  wide_width h k = rw (le-leb 1 w h, lt-leb w 64 k)
-
   big_value : 1 ≤ w → w ≤ 64 → (v / 2 ^ (w - 1) / 2 ^ 1 ≡ 0 → ⊥) → fits w v ≡ false
   unfolding fits
   big_value h k m =

@@ -28,13 +28,7 @@ pub fn room_for(bytes: usize, buf: &[u8]) -> Result<usize, Refusal>
 fn fits(width: u64, value: u64) -> bool
     ensures { result ≡ fitting width value }
 {
-    if width < 1 {
-        return false;
-    }
-    if 64 < width {
-        return false;
-    }
-    (value >> (width - 1)) >> 1 == 0
+    (1..=64).contains(&width) && (value >> (width - 1)) >> 1 == 0
 }
 
 // The one function of both strings. The width that fits is at most 64, and is cut to the eight bits that an appender
@@ -64,6 +58,7 @@ pub fn value_binary_string(width: u64, value: u64, buf: &mut [u8]) -> Result<usi
 }
 
 // Without a sum of start and width, which could wrap.
+// Kept, a start and a width: `message` takes them one by one, in 64 bits (`Message`), and a `u8` of them is no field yet.
 fn names_field(start: u64, width: u64, value: u64) -> bool
     ensures { result ≡ names_field start width value }
 {
@@ -71,6 +66,7 @@ fn names_field(start: u64, width: u64, value: u64) -> bool
 }
 
 // The one text, of a number that has a message, whatever bits it names.
+// Kept, no struct: it would stand between `message` and `put_message` alone, which both take the four (`MessagePut`).
 fn message_text(
     number: u64,
     carried: u64,
@@ -82,9 +78,9 @@ fn message_text(
 {
     let starts = texts::text_starts();
     let pool = texts::pool_bytes();
-    let measured = put_message(&mut [], 0, &pool, &starts, number, carried, start, width);
+    let measured = put_message(&mut [], 0, pool, starts, number, carried, start, width);
     let bytes = room_for(measured, buf)?;
-    put_message(buf, 0, &pool, &starts, number, carried, start, width);
+    put_message(buf, 0, pool, starts, number, carried, start, width);
     Ok(bytes)
 }
 

@@ -1,5 +1,5 @@
 -- The invariant: the sum so far and what is left add up, modulo 2^64, to what all fields do.
-use Rattle.std.proofs.Common.{◌≡◌, ℕ, ◌%◌, ◌^◌, ◌<◌, List, length, take, drop, sym, ap, ◌∙◌, subst, mod-lt, zero-add, arith, pow_pos, rules}
+use Rattle.std.proofs.Common.{◌≡◌, ℕ, ◌%◌, ◌^◌, ◌<◌, List, length, take, drop, ◌+◌, refl, sym, ap, ◌∙◌, mod-lt, zero-add, arith, pow_pos, rules}
 use Rattle.records.specs.declared.Record.{Record}
 use Rattle.reading.specs.Leaves.{added_up}
 use Rattle.records.proofs.Laws.{long_as}
@@ -18,10 +18,9 @@ loop-i-preserved c =
     let items : List Record = c.args.records.items in
     let long : length items ≡ 19 = search (rules, long_as) in (
       c.loop-i.invariant.0
-          ∙ sum_more items c.args.to c.loop-i.i c.loop-i.sum
-          c.shifted_back.result c.wrapping_add_u64-sum.result (omega arith) (omega (arith, c.requires))
-          c.shifted_back.ensures c.wrapping_add_u64-sum.ensures.value,
-      subst (λ (n : ℕ). n < 2 ^ 64) (sym c.wrapping_add_u64-sum.ensures.value) (mod-lt _ (pow_pos 64)),
+          ∙ sum_more items c.args.to c.loop-i.i c.loop-i.sum c.shifted_back-sum.result _ (omega arith)
+          (omega (arith, c.requires)) c.shifted_back-sum.ensures refl,
+      mod-lt (c.loop-i.sum + c.shifted_back-sum.result) (pow_pos 64),
     )
 
 pub returns : goal.returns

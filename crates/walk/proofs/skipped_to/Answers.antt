@@ -1,9 +1,7 @@
--- Both subtractions wrap, so that their results added back give the number and 1.
-use Rattle.std.proofs.Common.{rules}
+-- Both subtractions wrap: by whether the numbers are equal.
+use borrow.Author.Rules.{rules}
 use Rattle.walk.proofs.Laws.{skipped-is}
 use Rattle.walk.proofs.skipped_to.Goals as goal
 
 pub returns : goal.returns
-returns c =
-    skipped-is _ _ (search rules) (search rules) _ _ (search rules) (search rules) c.wrapping_sub_u16.ensures.value
-    c.wrapping_sub_u16-2.ensures.value
+returns c = skipped-is c.args.last c.args.next (search rules) (search rules)

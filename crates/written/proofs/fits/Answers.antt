@@ -1,13 +1,12 @@
--- By cases of the width; that the value is below 2^width is shown by two shifts.
-use mathlib.Core.Path.{sym}
-use Rattle.written.proofs.Widths.{no_width, wide_width, by_shifts}
+-- By whether the width is one; that the value is below 2^width is shown by two shifts.
+use borrow.Author.Rules.{rules}
+use Rattle.written.proofs.Widths.{by_shifts}
+use Rattle.written.specs.Requested.{fits}
 use Rattle.written.proofs.fits.Goals as goal
 
-pub returns-then-width-lt1 : goal.returns-then-width-lt1
-returns-then-width-lt1 c = let a = c.args in sym (no_width a.width a.value c.if-width-lt1.true)
+pub returns-then-contains : goal.returns-then-contains
+returns-then-contains c = let a = c.args in by_shifts a.width a.value (search rules) (search rules)
 
-pub returns-then-width-gt64 : goal.returns-then-width-gt64
-returns-then-width-gt64 c = let a = c.args in sym (wide_width a.width a.value c.if-width-lt1.false c.if-width-gt64.true)
-
-pub returns : goal.returns
-returns c = let a = c.args in by_shifts a.width a.value c.if-width-lt1.false c.if-width-gt64.false
+pub returns-else-contains : goal.returns-else-contains
+unfolding fits
+returns-else-contains c = search rules
