@@ -7,7 +7,7 @@ use native.Mathlib.Numerals.{add-one}
 use native.Mathlib.Omega.{arith}
 use native.Mathlib.Nat.{add-suc, add-zero, suc-add, zero-add}
 use lib.Dec.{T, eqb, leb, ltb, leb→le}
-use lib.ListN.{length, get_or, set, take, drop, drop_of_length-le, length-drop, length-set}
+use lib.ListN.{length, get_or, take, drop, drop_of_length-le, length-drop, length-set}
 use lib.Seq.{drop-cons, take_all, take_at}
 use borrow.Author.Tests.{lt-ltb, le-ltb, eq-eqb, eqb-false, eqb-true, ne_eqb}
 use Rattle.buffer.proofs.Appending.{measured, written}
@@ -167,19 +167,6 @@ module _ (line : List ℕ) where
 -- Sums.
 
 module _ (totals : List ℕ) (place count : ℕ) where
-  pub no_place : length totals ≤ place → add_count totals place count ≡ (false, totals)
-  unfolding add_count
-  no_place h = rw (le-ltb place (length totals) h)
-
-  module _ (h : place < length totals) where
-    pub too_large : 2 ^ 64 ≤ get_or totals place 0 + count → add_count totals place count ≡ (false, totals)
-    unfolding add_count
-    too_large l = rw (lt-ltb place (length totals) h, le-ltb (get_or totals place 0 + count) (2 ^ 64) l)
-
-    pub the_sum : get_or totals place 0 + count < 2 ^ 64 → add_count totals place count ≡ (true, set totals place (get_or totals place 0 + count))
-    unfolding add_count
-    the_sum l = rw (lt-ltb place (length totals) h, lt-ltb (get_or totals place 0 + count) (2 ^ 64) l)
-
   pub same-places : length (add_count totals place count).1 ≡ length totals
   unfolding add_count
   same-places =

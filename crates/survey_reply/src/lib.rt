@@ -135,6 +135,7 @@ pub fn read_count(line: &[u8]) -> Option<Count>
 }
 
 // Adds to the count of a place. Where there is no such place, or the sum would pass 64 bits, the totals stay.
+#[tactic(auto, unfolding(crate::specs::Sums::add_count))]
 pub fn add_count(totals: &mut [u64], place: usize, count: u64) -> bool
     ensures { CountAdded (totals.old, place, count) (result, totals.new) }
 {

@@ -1,7 +1,7 @@
 -- Laws of the walk's definitions, which the functions' proofs cite: where an entry is sound the walk goes on, 13 bytes
 -- later, and elsewhere it ends. The entry reader refuses all that the walk ends at, so that what the code asks of it
 -- decides.
-use Rattle.std.proofs.Common.{◌≡◌, ℕ, zero, suc, ◌+◌, ◌-◌, ◌*◌, ◌%◌, ◌^◌, ◌<◌, ◌≤◌, Bool, true, false, cond, ◌||◌, eqb, ltb, List, [], ◌∷◌, ◌++◌, length, take, drop, set, sym, refl, ap, ◌∙◌, append_assoc, append-nil, add-one, arith, eqb→eq, length-append, length-drop, take-append-drop, length-take-le, take_all, drop-drop, take-suc-set, drop-set-lt, le-ltb, lt-ltb, eq-eqb, ne_eqb, eqb-true}
+use Rattle.std.proofs.Common.{◌≡◌, ℕ, zero, suc, ◌+◌, ◌-◌, ◌*◌, ◌%◌, ◌<◌, ◌≤◌, Bool, true, false, cond, ◌||◌, eqb, ltb, List, [], ◌∷◌, ◌++◌, length, take, drop, set, sym, refl, ap, ◌∙◌, append_assoc, append-nil, add-one, arith, eqb→eq, length-append, length-drop, take-append-drop, length-take-le, take_all, drop-drop, take-suc-set, drop-set-lt, le-ltb, lt-ltb, eq-eqb, ne_eqb, eqb-true}
 use mathlib.Core.Bool.{true≢false}
 use lib.ListN.{length-map}
 use borrow.Author.Tests.{eqb-false}

@@ -1,5 +1,5 @@
 -- The invariant: the sum so far and what is left add up, modulo 2^64, to what all fields do.
-use Rattle.std.proofs.Common.{◌≡◌, ℕ, ◌%◌, ◌^◌, ◌<◌, List, length, take, drop, ◌+◌, refl, sym, ap, ◌∙◌, mod-lt, zero-add, arith, pow_pos, rules}
+use Rattle.std.proofs.Common.{◌≡◌, ℕ, ◌%◌, ◌^◌, List, length, take, drop, ◌+◌, refl, sym, ap, ◌∙◌, mod-lt, zero-add, arith, pow_pos, rules}
 use Rattle.records.specs.declared.Record.{Record}
 use Rattle.reading.specs.Leaves.{added_up}
 use Rattle.records.proofs.Laws.{long_as}
