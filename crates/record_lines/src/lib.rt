@@ -3,11 +3,10 @@
 
 ghost use Rattle.buffer.specs.Appending.{Appends};
 ghost use Rattle.buffer.specs.InOrder.{in_order};
-ghost use Rattle.buffer.specs.Lent.{Lent};
 ghost use Rattle.record_lines.specs.Lines.{bits_part, byte_text, depth_at, mark_part, number_part, record_line, text_part};
 ghost use Rattle.record_lines.specs.Promises.{BodyLine, RecordLines};
 
-use buffer::{put_bytes, put_text};
+use buffer::{put_bytes, put_code};
 use digits::{Base, put_digits, put_number};
 use records::{Mark, Record, Records};
 
@@ -43,15 +42,14 @@ fn put_depth(buf: &mut [u8], at: usize, index: usize) -> usize
     put_bytes(buf, at, b"1")
 }
 
-fn put_text_part(buf: &mut [u8], at: usize, pool: &[u8], starts: &[u16], code: u16) -> usize
-    requires { Lent pool.now starts.now }
+fn put_text_part(buf: &mut [u8], at: usize, code: u16) -> usize
     ensures { Appends (text_part code) (at, buf.old) (result, buf.new) }
 {
     let next = put_bytes(buf, at, b"|");
     if code == 0 {
         return put_bytes(buf, next, b"-");
     }
-    put_text(buf, next, pool, starts, code)
+    put_code(buf, next, code)
 }
 
 fn put_number_part(buf: &mut [u8], at: usize, number: u8) -> usize
@@ -83,35 +81,24 @@ fn put_mark(buf: &mut [u8], at: usize, mark: Mark) -> usize
 }
 
 // DEPTH|NAME|LONG NAME|START|WIDTH|0xVALUE|TEXT|MARK
-fn put_record(
-    buf: &mut [u8],
-    at: usize,
-    pool: &[u8],
-    starts: &[u16],
-    index: usize,
-    item: Record,
-) -> usize
-    requires { Lent pool.now starts.now }
+fn put_record(buf: &mut [u8], at: usize, index: usize, item: Record) -> usize
     ensures { Appends (record_line index item) (at, buf.old) (result, buf.new) }
 {
     let mut next = put_depth(buf, at, index);
-    next = put_text_part(buf, next, pool, starts, item.name);
-    next = put_text_part(buf, next, pool, starts, item.long as u16);
+    next = put_text_part(buf, next, item.name);
+    next = put_text_part(buf, next, item.long as u16);
     next = put_bits(buf, next, item);
-    next = put_text_part(buf, next, pool, starts, item.text);
+    next = put_text_part(buf, next, item.text);
     let mark = item.mark;
     put_mark(buf, next, mark)
 }
 
-// The pool is fetched once, since fetching copies it.
 pub fn put_record_lines(buf: &mut [u8], at: usize, records: Records) -> usize
     ensures { RecordLines (buf.old, at, records) (result, buf.new) }
 {
-    let pool = texts::pool_bytes();
-    let starts = texts::text_starts();
     let mut next = at;
     for i in 0..records.count.min(Records::MAX) {
-        next = put_record(buf, next, &pool, &starts, i, records.items[i]);
+        next = put_record(buf, next, i, records.items[i]);
     }
     next
 }

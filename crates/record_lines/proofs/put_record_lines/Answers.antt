@@ -17,9 +17,6 @@ use Rattle.record_lines.proofs.put_record_lines.Goals as goal
 pub loop-i-init : goal.loop-i-init
 loop-i-init c = (rw (no_items record_line) (none (omega arith)), refl)
 
-pub put_record-next-requires : goal.put_record-next-requires
-put_record-next-requires c = record { whole = c.pool_bytes-pool.ensures; each = c.text_starts-starts.ensures }
-
 pub loop-i-preserved : goal.loop-i-preserved
 loop-i-preserved c =
     let items = c.args.records.items in

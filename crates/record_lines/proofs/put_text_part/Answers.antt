@@ -1,6 +1,5 @@
--- A bar, then the text of the code by the pool that is lent, or a dash for code 0.
+-- A bar, then the text of the code, or a dash for code 0.
 use Rattle.buffer.proofs.Appending.{and_then}
-use Rattle.buffer.proofs.Lent.{lent-text}
 use Rattle.record_lines.proofs.Cases.{part_none, part-text}
 use Rattle.texts.specs.Pool.{bytes}
 use Rattle.record_lines.proofs.put_text_part.Goals as goal
@@ -13,5 +12,4 @@ returns-then-code-eq0 c =
 pub returns : goal.returns
 unfolding bytes
 returns c =
-    rw (part-text c.args.code c.if-code-eq0.false, ← (lent-text c.args.code c.requires))
-    (and_then c.put_bytes-next.ensures c.put_text.ensures)
+    rw (part-text c.args.code c.if-code-eq0.false) (and_then c.put_bytes-next.ensures c.put_code.ensures)
