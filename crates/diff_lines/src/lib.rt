@@ -5,21 +5,12 @@
 ghost use Rattle.buffer.specs.Appending.{Appends};
 ghost use Rattle.diff_lines.specs.Lines.{front_at, text_or, texts_line, text_under, values_line};
 ghost use Rattle.diff_lines.specs.Promises.{ChangedLines, MarkedLines};
-ghost use Rattle.texts.specs.Pool.{bytes_at};
 
-use buffer::{put_bytes, put_text};
+use buffer::{put_bytes, put_code};
 use records::Record;
 
 // The index of the first record of ISS's own.
 const OWN: usize = 5;
-
-fn put_code(buf: &mut [u8], at: usize, code: u16) -> usize
-    ensures { Appends (bytes_at code) (at, buf.old) (result, buf.new) }
-{
-    let pool = texts::pool_bytes();
-    let starts = texts::text_starts();
-    put_text(buf, at, &pool, &starts, code)
-}
 
 #[tactic(auto, unfolding(crate::specs::Lines::text_or, texts::specs::Pool::bytes))]
 fn put_text_or(buf: &mut [u8], at: usize, code: u16) -> usize
