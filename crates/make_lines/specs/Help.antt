@@ -6,6 +6,7 @@ use Rattle.layout_sets.specs.Outcomes.{outcome_of, sets}
 use Rattle.leaf_values.specs.Leaves.{leaves_of, same_leaves}
 use Rattle.leaf_values.specs.Values.{any_may, leaf_row, may_be, room_of}
 use Rattle.make_lines.specs.Below.{below, some_below}
+use Rattle.make_lines.specs.declared.Leaf.{Leaf}
 use Rattle.records.specs.declared.Row.{Row}
 use Rattle.texts.specs.Pool.{bytes, bytes_at}
 
@@ -17,6 +18,10 @@ before f (suc x) = f x
 -- the values that pass a test, in runs: the first of a run after a space, its last after a dash
 unfoldable pub run_part : (ℕ → Bool) → ℕ → List ℕ
 run_part f x = cond (f x) (cond (before f x) (cond (f (x + 1)) [] (bytes "-0x" ++ numeral 16 x)) (bytes " 0x" ++ numeral 16 x)) []
+
+-- whether a value may stand at a leaf
+abbrev pub may_at : Leaf → ℕ → Bool
+may_at l = may_be l.number l.iss l.index
 
 -- the values that a leaf may have; nothing where every value of its width may stand there
 unfoldable pub values_part : ℕ → ℕ → ℕ → List ℕ

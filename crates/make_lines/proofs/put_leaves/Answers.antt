@@ -9,12 +9,12 @@ use Rattle.make_lines.proofs.put_leaves.Goals as goal
 pub loop-i-init : goal.loop-i-init
 loop-i-init c = (rw (below_none _) (none (omega arith)), refl)
 
-pub put_leaf-next-requires : goal.put_leaf-next-requires
-put_leaf-next-requires c = omega (arith, c.loop-i-test.true, c.requires)
+pub put_line-next-requires : goal.put_line-next-requires
+put_line-next-requires c = omega (arith, c.loop-i-test.true, c.requires)
 
 pub loop-i-preserved : goal.loop-i-preserved
 loop-i-preserved c =
-    let w = and_then c.loop-i.invariant.0 c.put_leaf-next.ensures in
+    let w = and_then c.loop-i.invariant.0 c.put_line-next.ensures in
     let line = leaf_line c.args.number c.args.iss in
     (rw (below_more line c.loop-i.i) w, same_length w)
 

@@ -1,25 +1,16 @@
--- By whether there is a long name; of the project's own pool each text is the definition's.
+-- By whether there is a long name.
 use mathlib.Core.List.{append-nil}
 use Rattle.buffer.proofs.Appending.{and_then}
-use Rattle.buffer.proofs.Lent.{lent-text}
 use Rattle.make_lines.proofs.Laws.{name-short, name-long}
 use Rattle.texts.specs.Pool.{bytes, bytes_at}
 use Rattle.make_lines.proofs.put_name.Goals as goal
 
 pub returns-then-row-eq0 : goal.returns-then-row-eq0
 returns-then-row-eq0 c =
-    rw (
-      name-short c.args.row c.if-row-eq0.true,
-      append-nil (bytes_at c.args.row.name),
-      ← (lent-text c.args.row.name (record { whole = c.pool_bytes-pool.ensures; each = c.text_starts-starts.ensures })),
-    ) c.put_text-next.ensures
+    rw (name-short c.args.row c.if-row-eq0.true, append-nil (bytes_at c.args.row.name)) c.put_code-next.ensures
 
 pub returns : goal.returns
 unfolding bytes
 returns c =
-    rw (
-      name-long c.args.row c.if-row-eq0.false,
-      ← (lent-text c.args.row.name (record { whole = c.pool_bytes-pool.ensures; each = c.text_starts-starts.ensures })),
-      ← (lent-text c.args.row.long (record { whole = c.pool_bytes-pool.ensures; each = c.text_starts-starts.ensures })),
-    )
-    (and_then (and_then c.put_text-next.ensures c.put_bytes-next.ensures) c.put_text.ensures)
+    rw (name-long c.args.row c.if-row-eq0.false)
+    (and_then (and_then c.put_code-next.ensures c.put_bytes-next.ensures) c.put_code.ensures)

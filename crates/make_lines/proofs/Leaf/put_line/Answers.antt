@@ -2,7 +2,7 @@
 use Rattle.buffer.proofs.Appending.{and_then}
 use Rattle.make_lines.specs.Help.{leaf_line}
 use Rattle.texts.specs.Pool.{bytes}
-use Rattle.make_lines.proofs.put_leaf.Goals as goal
+use Rattle.make_lines.proofs.Leaf.put_line.Goals as goal
 
 pub returns : goal.returns
 unfolding leaf_line bytes

@@ -3,15 +3,15 @@ use Prim.Native.Nat.{ℕ}
 use mathlib.Core.Bool.{not}
 use mathlib.Core.Path.{ap, ◌∙◌}
 use lib.Dec.{eqb}
-use Rattle.leaf_values.specs.Values.{may_be}
+use Rattle.make_lines.specs.Help.{may_at}
 use Rattle.make_lines.proofs.Laws.{before-none, before-some}
-use Rattle.make_lines.proofs.was.Goals as goal
+use Rattle.make_lines.proofs.Leaf.was.Goals as goal
 
 pub returns-then-x-ne0 : goal.returns-then-x-ne0
 returns-then-x-ne0 c =
-    c.may_be.ensures ∙ before-some (may_be c.args.number c.args.iss c.args.index) c.args.x c.if-x-ne0.true
+    c.may_be.ensures ∙ before-some (may_at c.args.self) c.args.x c.if-x-ne0.true
 
 pub returns-else-x-ne0 : goal.returns-else-x-ne0
 returns-else-x-ne0 c =
     ap (λ (n : ℕ). not (eqb n 0)) c.if-x-ne0.false
-    ∙ before-none (may_be c.args.number c.args.iss c.args.index) c.args.x c.if-x-ne0.false
+    ∙ before-none (may_at c.args.self) c.args.x c.if-x-ne0.false
