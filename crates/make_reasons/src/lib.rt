@@ -6,7 +6,7 @@ ghost use Rattle.buffer.specs.Appending.{Appends};
 ghost use Rattle.make_reasons.specs.Promises.{NoLayoutPut, WidePut};
 ghost use Rattle.make_reasons.specs.Reasons.{class_part, count_part, counts_part, first_wide, has_count, has_fewer, wide_at, wide_leaf, wider};
 
-use buffer::{put_bytes, put_text};
+use buffer::{put_bytes, put_code};
 use digits::{Base, put_number};
 use layout_sets::{SETS, outcome};
 use leaf_values::{leaf_count, leaf_row};
@@ -60,7 +60,8 @@ fn put_class(buf: &mut [u8], at: usize, class: u64) -> usize
     put_number(buf, next, Base::Hex, class)
 }
 
-// 21: so many leaves have no set; or some sets have so many, and none fits the values.
+// 21: so many leaves have no set; or some sets have so many, and none fits the values. Kept as a count: `NoLayoutPut`
+// tells of any.
 pub fn put_no_layout(buf: &mut [u8], at: usize, class: u64, number: u8, count: usize) -> usize
     ensures { NoLayoutPut (buf.old, at, class, number, count) (result, buf.new) }
 {
@@ -99,16 +100,16 @@ fn put_wide_leaf(buf: &mut [u8], at: usize, index: usize, row: Row, x: u64) -> u
     requires { index + 1 < 2 ^ 64 }
     ensures { Appends (wide_leaf index row x) (at, buf.old) (result, buf.new) }
 {
-    let pool = texts::pool_bytes();
-    let starts = texts::text_starts();
     let mut next = put_bytes(buf, at, b"leaf ");
     next = put_number(buf, next, Base::Decimal, (index + 1) as u64);
     next = put_bytes(buf, next, b", ");
-    next = put_text(buf, next, &pool, &starts, row.name as u16);
+    next = put_code(buf, next, row.name as u16);
     put_wider(buf, next, x, row.width)
 }
 
 // The index of the first leaf that is too wide, or how many there are: kept as a number, which `first_wide` of specs/ is.
+// Kept, number and ISS side by side, here and in `put_wide_at`: no plainer, `put_too_wide` would make a struct of them for
+// one call of each.
 fn first_wide(number: u8, iss: u64, leaves: &[u64]) -> usize
     ensures { result ≡ first_wide number iss leaves.now 0 (length leaves.now) }
 {
