@@ -5,8 +5,12 @@ use mathlib.Core.List.{List}
 use mathlib.Core.Path.{◌≡◌, refl, sym, ap, ◌∙◌}
 use native.Mathlib.Numerals.{add-one}
 use native.Mathlib.Omega.{arith}
+use lib.Dec.{leb}
 use lib.ListN.{length, get_or, drop, drop_of_length-le}
 use lib.Seq.{drop-cons}
+use borrow.Author.Tests.{leb-true, leb-false}
+use Rattle.buffer.proofs.Lent.{lent_length, lent-text, part_out}
+use Rattle.buffer.specs.Lent.{Lent}
 use Rattle.esr.specs.Decode.{class_of, iss_of}
 use Rattle.layouts.specs.Layouts.{layout_number, pad}
 use Rattle.leaf_values.proofs.Laws.{few-leaves}
@@ -17,9 +21,22 @@ use Rattle.number.specs.declared.Number.{Number}
 use Rattle.refusals.specs.Refusals.{passed}
 use Rattle.records.specs.declared.Row.{Row}
 use Rattle.tables.specs.Tables.{top_rows}
+use Rattle.texts.specs.Pool.{bytes_at, length_in}
 use Rattle.turn_fields.specs.Fields.{bit_place, count_of, fields_of, means_by, nowhere, one_more, seek_from, seek_in}
 use Rattle.turn_fields.specs.declared.Found.{Found}
 use Rattle.turn_fields.specs.declared.Found.TheVariants.{Nowhere, Once, Several}
+
+-- of the project's own pool a text that is not empty lies in it
+pub lent-within : {lent starting : List ℕ} (code n : ℕ) → Lent lent starting → n ≡ length_in starting code → 0 < n
+    → get_or starting code 0 + n ≤ length lent
+lent-within {lent} {starting} code n own is some = by (leb (get_or starting code 0 + n) (length lent)) refl
+  where
+    by : (b : Bool) → leb (get_or starting code 0 + n) (length lent) ≡ b → get_or starting code 0 + n ≤ length lent
+    by true e = leb-true (get_or starting code 0 + n) (length lent) e
+    by false e =
+        let out = part_out lent starting code n is (leb-false (get_or starting code 0 + n) (length lent) e) in
+        let none = ap length (sym out ∙ lent-text code own) in
+        absurd (omega (arith, some, none, lent_length starting code n own.each is))
 
 module _ (v : ℕ) where
   pub counted : length (leaves_of (layout_number (class_of v)) (iss_of v)) + 3 ≡ length (fields_of v)

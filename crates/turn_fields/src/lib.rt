@@ -3,7 +3,6 @@
 #![tactic(auto)]
 
 ghost use Rattle.std.specs.Prelude.{◌≤◌, ◌≡◌};
-ghost use Rattle.buffer.specs.Lent.{part_in};
 ghost use Rattle.texts.specs.Pool.{bytes_at};
 ghost use Rattle.turn_fields.specs.Fields.{bit_place, count_of, fields_of, means_by, one_more, seek_in};
 ghost use Rattle.turn_fields.specs.Promises.{FieldCount, FieldRow, Find};
@@ -32,6 +31,7 @@ pub enum Found {
     Several(Place),
 }
 
+// Kept as a count, and fields by an index: `FieldCount` and `FieldRow` say so, and there is no heap for a list of them.
 pub fn field_count(esr: u64) -> usize
     ensures { FieldCount esr result }
 {
@@ -54,28 +54,19 @@ pub fn field_row(esr: u64, index: usize) -> Row
     }
 }
 
-// Whether a word is the text of a code in a pool.
-fn is_part(pool: &[u8], starts: &[u16], code: u16, word: &[u8]) -> bool
-    ensures { result ≡ same (part_in pool.now starts.now code) word.now }
-{
-    let n = lookup::length_in(starts, code) as usize;
-    // A code past the last start has no bytes, and is not looked up.
-    if n == 0 {
-        return words::is_word(&pool[0..0], word);
-    }
-    let from = starts[code as usize] as usize;
-    if pool.len() < from + n {
-        return words::is_word(&pool[0..0], word);
-    }
-    words::is_word(&pool[from..from + n], word)
-}
-
+// Whether a word is the text of a code.
 fn is_text(code: u16, word: &[u8]) -> bool
     ensures { result ≡ same (bytes_at code) word.now }
 {
-    let pool = texts::pool_bytes();
-    let starts = texts::text_starts();
-    is_part(&pool, &starts, code, word)
+    let pool: &[u8] = texts::pool_bytes();
+    let starts: &[u16] = texts::text_starts();
+    let n = lookup::length_in(starts, code) as usize;
+    // A code past the last start has no bytes, and is not looked up.
+    if n == 0 {
+        return words::is_word(b"", word);
+    }
+    let from = starts[code as usize] as usize;
+    words::is_word(&pool[from..from + n], word)
 }
 
 // Whether a row is meant: by its name, or by its lowest bit.
