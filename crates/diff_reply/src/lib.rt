@@ -63,23 +63,14 @@ impl Side {
         Side::First
     }
 
-    // How many records of the first list the part takes.
-    fn of_first(self) -> usize
-        ensures { (result ≡ of_first self) × (result ≤ 1) }
+    // How many records the part takes of the first list, and of the second.
+    fn taken(self) -> (usize, usize)
+        ensures { (result.0 ≡ of_first self) × (result.1 ≡ of_second self) × (result.0 ≤ 1) × (result.1 ≤ 1) }
     {
         match self {
-            Side::First | Side::Both => 1,
-            Side::Second => 0,
-        }
-    }
-
-    // And of the second.
-    fn of_second(self) -> usize
-        ensures { (result ≡ of_second self) × (result ≤ 1) }
-    {
-        match self {
-            Side::First => 0,
-            Side::Second | Side::Both => 1,
+            Side::First => (1, 0),
+            Side::Second => (0, 1),
+            Side::Both => (1, 1),
         }
     }
 }
@@ -159,10 +150,11 @@ impl Pair<'_> {
         ensures { TurnStep self.entry turn buf.old result buf.new }
     {
         let side = self.next_side(turn);
+        let (first, second) = side.taken();
         Turn {
             next: self.put_part(buf, turn, side),
-            first: turn.first + side.of_first(),
-            second: turn.second + side.of_second(),
+            first: turn.first + first,
+            second: turn.second + second,
         }
     }
 
@@ -229,7 +221,7 @@ pub fn put_diff_reply(buf: &mut [u8], at: usize, first: u64, second: u64) -> usi
     pair.put_other_rows(buf, next)
 }
 
-// Another count of numbers than two.
+// Another count of numbers than two. Kept as a count: `NotTwo` tells of any.
 #[tactic(auto, unfolding(crate::specs::Replies::not_two, texts::specs::Pool::bytes))]
 pub fn put_not_two(buf: &mut [u8], at: usize, count: u64) -> usize
     ensures { NotTwo (buf.old, at, count) (result, buf.new) }

@@ -8,4 +8,4 @@ returns c =
     let t = c.args.turn in
     let few = c.requires.few in
     step c.requires c.next_side-side.ensures (record_here p.first.now t.first few.0)
-    (record_here p.second.now t.second few.1) c.put_part.ensures c.of_first.ensures.0 c.of_second.ensures.0
+    (record_here p.second.now t.second few.1) c.put_part.ensures c.taken-first.ensures.0 c.taken-first.ensures.1
