@@ -1,7 +1,7 @@
 -- The fields by index, and a search among them a step at a time.
 use Prim.Native.Nat.{ℕ, zero, suc, ◌+◌, ◌-◌, ◌≤◌, ◌<◌}
 use mathlib.Core.Bool.{Bool, true, false}
-use mathlib.Core.List.{List}
+use mathlib.Core.List.{List, []}
 use mathlib.Core.Path.{◌≡◌, refl, sym, ap, ◌∙◌}
 use native.Mathlib.Numerals.{add-one}
 use native.Mathlib.Omega.{arith}
@@ -21,7 +21,7 @@ use Rattle.number.specs.declared.Number.{Number}
 use Rattle.refusals.specs.Refusals.{passed}
 use Rattle.records.specs.declared.Row.{Row}
 use Rattle.tables.specs.Tables.{top_rows}
-use Rattle.texts.specs.Pool.{bytes_at, length_in}
+use Rattle.texts.specs.Pool.{length_in}
 use Rattle.turn_fields.specs.Fields.{bit_place, count_of, fields_of, means_by, nowhere, one_more, seek_from, seek_in}
 use Rattle.turn_fields.specs.declared.Found.{Found}
 use Rattle.turn_fields.specs.declared.Found.TheVariants.{Nowhere, Once, Several}
@@ -82,7 +82,7 @@ module _ (v : ℕ) (word : List ℕ) (n : Number) (e : n ≡ whole_of word) wher
   unfolding bit_place
   no_number h = rw (← e, h)
 
-  pub at-bit : passed n.refusal ≡ true → {r : Found} → r ≡ seek_in (means_by false word n.value) (fields_of v)
+  pub at-bit : passed n.refusal ≡ true → {r : Found} → r ≡ seek_in (means_by false [] n.value) (fields_of v)
       → r ≡ bit_place v word (whole_of word)
-  unfolding bit_place
+  unfolding bit_place means_by
   at-bit h f = f ∙ rw (← e, h)

@@ -11,6 +11,8 @@ use Rattle.tables.specs.Tables.{top_rows}
 use Rattle.texts.specs.Pool.{bytes_at}
 use Rattle.turn_fields.specs.declared.Found.{Found}
 use Rattle.turn_fields.specs.declared.Found.TheVariants.{Nowhere, Once, Several}
+use Rattle.turn_fields.specs.declared.Meant.{Meant}
+use Rattle.turn_fields.specs.declared.Meant.TheVariants.{Name, Bit}
 use Rattle.words.specs.Words.{same}
 
 -- ISS2, EC, IL and ISS's own: the leaves, but for the reserved bits 37..64, which the maker has no number for (DECISIONS 110)
@@ -20,6 +22,11 @@ fields_of v = drop 1 (take 4 (top_rows (table_of (layout_number (class_of v))).i
 -- whether a row is meant: by its name, letter for letter, or by its lowest bit
 unfoldable pub means_by : Bool → List ℕ → ℕ → Row → Bool
 means_by by_name word bit r = cond by_name (same (bytes_at r.name) word) (eqb r.start bit)
+
+-- the same by what it is meant by
+abbrev pub meant : Meant → Row → Bool
+meant (Name word) = means_by true word.now 0
+meant (Bit bit) = means_by false [] bit
 
 -- how many fields are meant
 abbrev pub count_of : Found → ℕ

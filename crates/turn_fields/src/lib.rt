@@ -4,7 +4,7 @@
 
 ghost use Rattle.std.specs.Prelude.{◌≤◌, ◌≡◌};
 ghost use Rattle.texts.specs.Pool.{bytes_at};
-ghost use Rattle.turn_fields.specs.Fields.{bit_place, count_of, fields_of, means_by, one_more, seek_in};
+ghost use Rattle.turn_fields.specs.Fields.{bit_place, count_of, fields_of, meant, one_more, seek_in};
 ghost use Rattle.turn_fields.specs.Promises.{FieldCount, FieldRow, Find};
 ghost use Rattle.number.specs.Rest.{whole_of};
 ghost use Rattle.words.specs.Words.{same};
@@ -69,14 +69,23 @@ fn is_text(code: u16, word: &[u8]) -> bool
     words::is_word(&pool[from..from + n], word)
 }
 
-// Whether a row is meant: by its name, or by its lowest bit.
-fn means(row: Row, named: bool, word: &[u8], bit: u64) -> bool
-    ensures { result ≡ means_by named word.now bit row }
-{
-    if named {
-        return is_text(row.name as u16, word);
+// What a field is meant by: its name, or the number of its lowest bit.
+#[derive(Clone, Copy)]
+enum Meant<'a> {
+    Name(&'a [u8]),
+    Bit(u64),
+}
+
+impl Meant<'_> {
+    // Whether it is that of a row.
+    fn is_of(self, row: Row) -> bool
+        ensures { result ≡ meant self.entry row }
+    {
+        match self {
+            Meant::Name(word) => is_text(row.name as u16, word),
+            Meant::Bit(bit) => row.start as u64 == bit,
+        }
     }
-    row.start as u64 == bit
 }
 
 // One more is meant, or not.
@@ -97,12 +106,12 @@ fn and_one(found: Found, hit: bool, index: usize) -> Found
     }
 }
 
-fn seek(esr: u64, named: bool, word: &[u8], bit: u64) -> Found
-    ensures { result ≡ seek_in (means_by named word.now bit) (fields_of esr) }
+fn seek(esr: u64, by: Meant) -> Found
+    ensures { result ≡ seek_in (meant by.entry) (fields_of esr) }
 {
     let mut found = Found::Nowhere;
     for i in 0..field_count(esr) {
-        found = and_one(found, means(field_row(esr, i), named, word, bit), i);
+        found = and_one(found, by.is_of(field_row(esr, i)), i);
     }
     found
 }
@@ -116,14 +125,14 @@ fn by_bit(esr: u64, word: &[u8]) -> Found
     if refusal.is_refused() {
         return Found::Nowhere;
     }
-    seek(esr, false, word, number.value)
+    seek(esr, Meant::Bit(number.value))
 }
 
 // A name goes before a number.
 pub fn find(esr: u64, word: &[u8]) -> Found
     ensures { Find (esr, word.now) result }
 {
-    match seek(esr, true, word, 0) {
+    match seek(esr, Meant::Name(word)) {
         Found::Nowhere => by_bit(esr, word),
         found => found,
     }
