@@ -11,7 +11,7 @@ ghost use Rattle.texts.specs.Pool.{bytes, description_of};
 ghost use Rattle.texts.specs.Rules.{class_name};
 ghost use Rattle.std.specs.Prelude.{length};
 
-use buffer::{put_bytes, put_text};
+use buffer::{put_bytes, put_code};
 use digits::{Base, put_number};
 use make_reasons::{put_no_layout, put_too_wide};
 use refusals::{Reason, Refusal};
@@ -23,13 +23,13 @@ fn put_no_layout_line(
     at: usize,
     refusal: Refusal,
     class: u64,
-    count: usize,
+    leaves: &[u64],
 ) -> usize
-    ensures { Appends (reason_line refusal (no_layout class (layout_number class) count)) (at, buf.old) (result, buf.new) }
+    ensures { Appends (reason_line refusal (no_layout class (layout_number class) (length leaves.now))) (at, buf.old) (result, buf.new) }
 {
     let mut next = put_refused(buf, at, refusal);
     next = put_bytes(buf, next, b": ");
-    next = put_no_layout(buf, next, class, esr::layout_number(class), count);
+    next = put_no_layout(buf, next, class, esr::layout_number(class), leaves.len());
     put_bytes(buf, next, b"\n")
 }
 
@@ -65,7 +65,7 @@ fn put_unmade(
     ensures { Appends (unmade class il iss2 leaves.now refusal index) (at, buf.old) (result, buf.new) }
 {
     match refusal.reason {
-        Reason::NoLayout => put_no_layout_line(buf, at, refusal, class, leaves.len()),
+        Reason::NoLayout => put_no_layout_line(buf, at, refusal, class, leaves),
         Reason::WideLeaf => {
             let iss = layout_sets::outcome(index.unwrap_or(layout_sets::SETS));
             put_wide_line(buf, at, refusal, class, il, iss2, iss, leaves)
@@ -94,10 +94,8 @@ pub fn put_make_reply(
 fn put_class_text(buf: &mut [u8], at: usize, class: u64) -> usize
     ensures { Appends (bytes (description_of class_name.number class)) (at, buf.old) (result, buf.new) }
 {
-    let pool = texts::pool_bytes();
-    let starts = texts::text_starts();
     let code = lookup::text_code(rules::CLASS_NAME, class);
-    put_text(buf, at, &pool, &starts, code)
+    put_code(buf, at, code)
 }
 
 pub fn put_help_reply(buf: &mut [u8], at: usize, class: u64) -> usize
@@ -127,7 +125,7 @@ pub fn put_bad_number(buf: &mut [u8], at: usize, place: u64, refusal: Refusal) -
     put_bytes(buf, next, b"\n")
 }
 
-// Class, IL and ISS2 come before the leaves.
+// Class, IL and ISS2 come before the leaves. Kept as a count: `TooFew` tells of any.
 pub fn put_too_few(buf: &mut [u8], at: usize, count: u64) -> usize
     ensures { TooFew (buf.old, at, count) (result, buf.new) }
 {

@@ -1,12 +1,10 @@
--- Of the project's own pool the class text is the definition's.
-use Rattle.reply_lines.proofs.Cases.{described-lent}
+-- The code is that of the class in the rule's texts.
+use Rattle.texts.proofs.Laws.{text-described}
+use Rattle.texts.specs.Pool.{bytes_at}
 use Rattle.texts.specs.Rules.{class_name}
 use Rattle.make_reply.proofs.put_class_text.Goals as goal
 
 pub returns : goal.returns
+unfolding bytes_at
 returns c =
-    let own = described-lent class_name.number c.args.class (record {
-      whole = c.pool_bytes-pool.ensures;
-      each = c.text_starts-starts.ensures;
-    }) in
-    rw (← own) (rw c.text_code-code.ensures at c.put_text.ensures)
+    rw (← (text-described class_name.number c.args.class)) (rw c.text_code-code.ensures at c.put_code.ensures)
