@@ -72,7 +72,8 @@ fn room() -> [u8; ROOM]
     [SENTINEL; ROOM]
 }
 
-// What a call answers in a buffer of a length, given what it answers in a whole room.
+// What a call answers in a buffer of a length, given what it answers in a whole room. Kept as a length, here and below: the
+// buffer is the front of a room, and what is told is how the whole room stands.
 fn answer_in(whole: Answer, length: usize) -> Answer {
     let bytes = whole?;
     if length < bytes {
@@ -91,27 +92,29 @@ fn is_right(
     left: &[u8; ROOM],
     length: usize,
 ) -> bool {
-    if answer != answer_in(whole, length) {
-        return false;
-    }
-    if length < whole.unwrap_or(0) {
-        return check::same(bytes, &room());
-    }
-    check::same(bytes, left)
+    let is_left = if length < whole.unwrap_or(0) {
+        check::same(bytes, &room())
+    } else {
+        check::same(bytes, left)
+    };
+    is_left && answer == answer_in(whole, length)
 }
 
-// How many buffers were tried, and in the upper half how many of them were wrong: one number goes from hand to hand.
-const WRONG: u64 = 1 << 32;
-
-fn counted(tally: u64, right: bool) -> u64 {
-    let next = tally.wrapping_add(1);
-    if right {
-        return next;
-    }
-    next.wrapping_add(WRONG)
+// How many buffers were tried, and how many of them were wrong.
+#[derive(Clone, Copy)]
+struct Tally {
+    buffers: u64,
+    wrong: u64,
 }
 
-fn tried(tally: u64, call: Call, whole: Answer, left: &[u8; ROOM], length: usize) -> u64 {
+fn counted(tally: Tally, is_right: bool) -> Tally {
+    Tally {
+        buffers: tally.buffers.wrapping_add(1),
+        wrong: tally.wrong.wrapping_add(!is_right as u64),
+    }
+}
+
+fn tried(tally: Tally, call: Call, whole: Answer, left: &[u8; ROOM], length: usize) -> Tally {
     if ROOM < length {
         return counted(tally, false);
     }
@@ -128,7 +131,7 @@ fn exact_length(whole: Answer) -> usize {
 }
 
 // Length 0, one short, exact, one more and much more.
-fn with_lengths(tally: u64, call: Call, whole: Answer, left: &[u8; ROOM]) -> u64 {
+fn with_lengths(tally: Tally, call: Call, whole: Answer, left: &[u8; ROOM]) -> Tally {
     let exact = exact_length(whole);
     let short = exact.wrapping_sub(1);
     let over = exact.wrapping_add(1);
@@ -185,7 +188,7 @@ fn say_refusal(refusal: Refusal) {
 }
 
 // Says what a call answers, the text or the refusal, and tries it in the buffers.
-fn say_call(tally: u64, call: Call) -> u64 {
+fn say_call(tally: Tally, call: Call) -> Tally {
     let mut bytes = room();
     let whole = made(call, &mut bytes);
     match whole {
@@ -196,18 +199,19 @@ fn say_call(tally: u64, call: Call) -> u64 {
     with_lengths(tally, call, whole, &bytes)
 }
 
-fn say_ended(tally: u64, call: Call) -> u64 {
+fn say_ended(tally: Tally, call: Call) -> Tally {
     let next = say_call(tally, call);
     end_line();
     next
 }
 
-fn say_line(tally: u64, esr: u64, index: usize) -> u64 {
+fn say_line(tally: Tally, esr: u64, index: usize) -> Tally {
     say_index(index);
     say_ended(tally, Call::RecordLine { esr, index })
 }
 
-fn say_lines(tally: u64, esr: u64, count: usize) -> u64 {
+// Kept as a count: the two lines past the last are asked for by their indices.
+fn say_lines(tally: Tally, esr: u64, count: usize) -> Tally {
     let mut next = tally;
     for index in 0..count {
         next = say_line(next, esr, index);
@@ -216,18 +220,18 @@ fn say_lines(tally: u64, esr: u64, count: usize) -> u64 {
     say_line(next, esr, usize::MAX)
 }
 
-fn say_strings(tally: u64, width: u64, value: u64) -> u64 {
+fn say_strings(tally: Tally, width: u64, value: u64) -> Tally {
     let next = say_call(tally, Call::Value { width, value });
     space();
     say_ended(next, Call::Binary { width, value })
 }
 
-fn say_item(tally: u64, index: usize, item: Record) -> u64 {
+fn say_item(tally: Tally, index: usize, item: Record) -> Tally {
     say_index(index);
     say_strings(tally, item.width as u64, item.value)
 }
 
-fn say_values(tally: u64, records: Records) -> u64 {
+fn say_values(tally: Tally, records: Records) -> Tally {
     let mut next = tally;
     for i in 0..records.count {
         next = say_item(next, i, records.at(i));
@@ -235,7 +239,7 @@ fn say_values(tally: u64, records: Records) -> u64 {
     next
 }
 
-fn say_message(tally: u64, number: u64, carried: u64, start: u64, width: u64) -> u64 {
+fn say_message(tally: Tally, number: u64, carried: u64, start: u64, width: u64) -> Tally {
     say_ended(
         tally,
         Call::Message {
@@ -247,7 +251,7 @@ fn say_message(tally: u64, number: u64, carried: u64, start: u64, width: u64) ->
     )
 }
 
-fn say_why(tally: u64, refusal: Refusal) -> u64 {
+fn say_why(tally: Tally, refusal: Refusal) -> Tally {
     if !refusal.is_refused() {
         return tally;
     }
@@ -260,20 +264,20 @@ fn say_why(tally: u64, refusal: Refusal) -> u64 {
     )
 }
 
-fn say_records(tally: u64, esr: u64) -> u64 {
+fn say_records(tally: Tally, esr: u64) -> Tally {
     let answer = esr::decode(esr);
     let records = answer.records;
     let next = say_why(tally, answer.refusal);
     say_values(say_lines(next, esr, records.count), records)
 }
 
-fn say_value(tally: u64, esr: u64) -> u64 {
+fn say_value(tally: Tally, esr: u64) -> Tally {
     say_hex(b"> 0x", esr);
     end_line();
     say_records(say_ended(tally, Call::Listing { esr }), esr)
 }
 
-fn say_read(tally: u64, read: Number) -> u64 {
+fn say_read(tally: Tally, read: Number) -> Tally {
     if !read.refusal.is_refused() {
         return say_value(tally, read.value);
     }
@@ -283,7 +287,7 @@ fn say_read(tally: u64, read: Number) -> u64 {
 }
 
 #[tactic(auto, using(line_reader::proofs::Laws::part_moved))]
-fn say_given(tally: u64, given: &[u8]) -> u64 {
+fn say_given(tally: Tally, given: &[u8]) -> Tally {
     let mut next = tally;
     let mut at: usize = 0;
     // Kept, no plainer: each line gives the next offset.
@@ -295,21 +299,21 @@ fn say_given(tally: u64, given: &[u8]) -> u64 {
     next
 }
 
-fn say_field(tally: u64, width: u64, value: u64) -> u64 {
+fn say_field(tally: Tally, width: u64, value: u64) -> Tally {
     say_number(b"width ", width);
     say_hex(b" value 0x", value);
     say(b": ");
     say_strings(tally, width, value)
 }
 
-fn say_numbered(tally: u64, number: u64, carried: u64, start: u64, width: u64) -> u64 {
+fn say_numbered(tally: Tally, number: u64, carried: u64, start: u64, width: u64) -> Tally {
     say_carried(b"message ", number, carried, start, width);
     say(b": ");
     say_message(tally, number, carried, start, width)
 }
 
 // The message of a reserved field of a width: at the top of the value, one bit past it, and with a value that is one too great.
-fn say_named(tally: u64, width: u64, ones: u64) -> u64 {
+fn say_named(tally: Tally, width: u64, ones: u64) -> Tally {
     let top = 64u64.wrapping_sub(width);
     let past = top.wrapping_add(1);
     let mut next = say_numbered(tally, 1, ones, top, width);
@@ -318,7 +322,7 @@ fn say_named(tally: u64, width: u64, ones: u64) -> u64 {
 }
 
 // Each width from 0 to past 64, with 0, the greatest value and one more; the greatest of 64 bits stays where a width is past them.
-fn say_widths(tally: u64) -> u64 {
+fn say_widths(tally: Tally) -> Tally {
     let mut next = tally;
     let mut ones: u64 = 0;
     for width in 0..67 {
@@ -332,18 +336,18 @@ fn say_widths(tally: u64) -> u64 {
 }
 
 // These widths would be accepted if their upper bits were cut off.
-fn say_far_widths(tally: u64) -> u64 {
+fn say_far_widths(tally: Tally) -> Tally {
     let mut next = say_field(tally, 0x108, 0);
     next = say_field(next, 0x100000008, 0);
     say_field(next, u64::MAX, 0)
 }
 
-fn say_message_ends(tally: u64, number: u64) -> u64 {
+fn say_message_ends(tally: Tally, number: u64) -> Tally {
     let next = say_numbered(tally, number, 0, 0, 1);
     say_numbered(next, number, u64::MAX, u64::MAX, u64::MAX)
 }
 
-fn say_messages(tally: u64) -> u64 {
+fn say_messages(tally: Tally) -> Tally {
     let mut next = tally;
     for number in 0..18 {
         next = say_message_ends(next, number);
@@ -352,30 +356,34 @@ fn say_messages(tally: u64) -> u64 {
 }
 
 // These numbers too.
-fn say_far_messages(tally: u64) -> u64 {
+fn say_far_messages(tally: Tally) -> Tally {
     let mut next = say_message_ends(tally, 0x101);
     next = say_message_ends(next, 0x100000001);
     say_message_ends(next, u64::MAX)
 }
 
 // Bits that would be within the value if their sum wrapped, or if their upper bits were cut off.
-fn say_far_bits(tally: u64) -> u64 {
+fn say_far_bits(tally: Tally) -> Tally {
     let mut next = say_numbered(tally, 1, 0, u64::MAX, 1);
     next = say_numbered(next, 1, 0, 0xFFFFFFFFFFFFFFC0, 64);
     next = say_numbered(next, 1, 0, 0x100, 8);
     say_numbered(next, 1, 0, 8, 0x108)
 }
 
-fn say_tally(tally: u64) {
-    say_number(b"buffers ", tally % WRONG);
-    say_number(b" wrong ", tally / WRONG);
+fn say_tally(tally: Tally) {
+    say_number(b"buffers ", tally.buffers);
+    say_number(b" wrong ", tally.wrong);
     end_line();
 }
 
 fn main() {
     let mut given = io::large_buffer();
     let n = io::read_full(STDIN, &mut given);
-    let mut tally = say_given(0, &given[0..n]);
+    let none = Tally {
+        buffers: 0,
+        wrong: 0,
+    };
+    let mut tally = say_given(none, &given[0..n]);
     tally = say_far_widths(say_widths(tally));
     say_tally(say_far_bits(say_far_messages(say_messages(tally))));
 }
