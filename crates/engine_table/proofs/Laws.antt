@@ -9,7 +9,7 @@ use lib.ListN.{length, get_or-eq_default}
 use Rattle.promise.specs.Member.{member}
 use Rattle.promise.proofs.Tests.{every, every_mem, both_left, both_right, of-member, is_true}
 use Rattle.tables.specs.Tables.{Served, layouts, res0, wf, mcr, mcrr, ldc, sve, ld64b, bti, pauth, hvc, brk, fp, breakpoint, software_step, watchpoint, instruction_abort, data_abort, serror, msr}
-use Rattle.engine_table.specs.Packed.{row_words, row_word, nowhere, placed, place_in, place_of, place_word, check_word}
+use Rattle.engine_table.specs.Packed.{row_words, row_word, nowhere, placed, place_in, place_of}
 
 row_count : length row_words ≡ 133
 unfolding row_words layouts res0 wf mcr mcrr ldc sve ld64b bti pauth hvc brk fp breakpoint software_step watchpoint instruction_abort data_abort serror msr
@@ -45,11 +45,3 @@ unserved n i c (s ∷ ss) t h =
 pub past-place : (c : ℕ) → 64 ≤ c → place_of c ≡ nowhere
 unfolding place_of
 past-place c h = unserved 0 0 c layouts six_bits_lem h
-
-pub past-places : (c : ℕ) → 64 ≤ c → 0 ≡ place_word c
-unfolding place_word
-past-places c h = rw (past-place c h) refl
-
-pub past-checks : (c : ℕ) → 64 ≤ c → 0 ≡ check_word c
-unfolding check_word
-past-checks c h = rw (past-place c h) refl
