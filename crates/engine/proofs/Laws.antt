@@ -169,9 +169,6 @@ begun esr rule iss top rows is few =
     }
 
 module _ (all : Records) (iss : ℕ) (out : Records) where
-  pub has_room : (r : Row) (left : List Row) → Writes all iss out (r ∷ left) → out.count < set_room
-  has_room r left w = omega (arith, w.room)
-
   pub writes_one : (r : Row) (left : List Row) (x : Record) → Writes all iss out (r ∷ left) → x ≡ record_of iss r
       → Writes all iss (record { items = set out.items out.count x; count = out.count + 1 }) left
   unfolding pushed_all

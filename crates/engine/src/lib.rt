@@ -87,12 +87,14 @@ fn fails(answers: u64, iss: u64, word: u64) -> bool
     requires { T (direct word) }
     ensures { result ≡ engine.fails answers iss word }
 {
-    let value = value_in(word, iss);
     applies(answers, word)
-        && match Mark::of_kind(byte(word, 7)) {
-            Mark::Checked => value != 0,
-            Mark::Coded => !describes(byte(word, 3), value),
-            Mark::Free | Mark::Unchecked => false,
+        && {
+            let value = value_in(word, iss);
+            match Mark::of_kind(byte(word, 7)) {
+                Mark::Checked => value != 0,
+                Mark::Coded => !describes(byte(word, 3), value),
+                Mark::Free | Mark::Unchecked => false,
+            }
         }
 }
 

@@ -64,6 +64,8 @@ pub fn words(item: Record) -> [u64; 2]
 }
 
 // ISS itself, by the rule that the layout has for it.
+// Kept beside `iss_record`, no plainer as one: each gives its own form, two words here and a record there, and what is
+// shared is the one test.
 fn iss_slot(esr: u64, rule: u8) -> [u64; 2]
     ensures { result ≡ slot_of esr (iss_under rule) }
 {
