@@ -56,7 +56,8 @@ fn bit(v: u64, position: u64) -> u64
     (v >> position) & 1
 }
 
-// What an ISS answers to 01's tests, a bit to a test, worked out once for all rows: bits 24, 10 and 7 are 1; the status is 0x10, 0x11, external.
+// What an ISS answers to 01's tests, a bit to a test, worked out once for all rows: bits 24, 10 and 7 are 1; the status
+// is 0x10, 0x11, external.
 fn answers_of(iss: u64) -> u64
     ensures { result ≡ answers_of iss }
 {
@@ -182,8 +183,8 @@ fn top_records(esr: u64, rule: u8) -> Records
 }
 
 // The top records, then ISS's own from high bits to low, each written where it stays.
-// Beside the walk of `slots::row_slots`, no plainer as one: what is shared is the head of the loop, and a closure for the
-// rest would change what it captures, of which a proof keeps nothing.
+// Beside the walk of `slots::row_slots`, no plainer as one: what is shared is the head of the loop, and a closure for
+// the rest would change what it captures, of which a proof keeps nothing.
 fn all_records(esr: u64, class: u64, iss: u64) -> Records
     ensures { result ≡ records_of (records_by esr class iss) }
 {

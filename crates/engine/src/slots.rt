@@ -26,8 +26,8 @@ pub(crate) const ISS: u64 = 0x19_0009_0000_0008;
 // How many they are.
 const TOP: usize = 5;
 
-// The code of a rule's text of a value; 0 for none. `lookup::text_code` finds a rule by a match of its own and not in the
-// engine's table, so no plainer as one.
+// The code of a rule's text of a value; 0 for none. `lookup::text_code` finds a rule by a match of its own and not in
+// the engine's table, so no plainer as one.
 fn text_code(rule: u8, value: u64) -> u64
     ensures { (result ≡ text_code rule value) × (result < 0x10000) }
 {
@@ -54,7 +54,8 @@ fn slot(word: u64, v: u64) -> [u64; 2]
     [value, codes + bits * 0x100_0000_0000]
 }
 
-// A record as two words, the second with all but the value: from low bits to high, as its fields lie in a little-endian machine.
+// A record as two words, the second with all but the value: from low bits to high, as its fields lie in a little-endian
+// machine.
 pub fn words(item: Record) -> [u64; 2]
     ensures { Words item result }
 {
@@ -116,7 +117,8 @@ fn count_rows(answers: u64, first: usize, count: u8) -> usize
     found
 }
 
-// Whether the slots have room for the records: as many as a set holds have room for those of any value, and where there are fewer the rows are counted.
+// Whether the slots have room for the records: as many as a set holds have room for those of any value, and where there
+// are fewer the rows are counted.
 fn fits(room: usize, answers: u64, first: usize, count: u8) -> bool
     requires { (first < 256) × (length (rows_from answers first count) ≤ 14) }
     ensures { result ≡ leb (5 + length (rows_from answers first count)) room }

@@ -122,10 +122,10 @@ fn refuse(refusal: Refusal) -> Answer
     }
 }
 
-// What the first row that refuses its field answers, in the order of the checks. A layout is fetched by each function that
-// walks it: one that is handed on by value is copied, which costs more.
-// Kept as two parameters, a layout's number and an ISS, no plainer as one: a struct of both would be built in `read` alone
-// and taken apart again in the two functions below.
+// What the first row that refuses its field answers, in the order of the checks. A layout is fetched by each function
+// that walks it: one that is handed on by value is copied, which costs more.
+// Kept as two parameters, a layout's number and an ISS, no plainer as one: a struct of both would be built in `read`
+// alone, and taken apart again here and in `all_records`.
 fn first_failure(number: u8, iss: u64) -> Result<(), Refusal>
     ensures { result ≡ checked (failure_for (table_of number) iss) }
 {
@@ -203,7 +203,8 @@ fn accept(esr: u64) -> Answer
     }
 }
 
-// The quicker of both: the engine, which walks the one table of all rows (#113). Each answer is returned where it is made, so that none is copied.
+// The quicker of both: the engine, which walks the one table of all rows (#113). Each answer is returned where it is
+// made, so that none is copied.
 pub fn decode(esr: u64) -> Answer
     ensures { Decoded esr result }
 {

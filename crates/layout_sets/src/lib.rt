@@ -1,4 +1,5 @@
-// The sets of rows that a layout can have: an ISS for each outcome of the tests that 01's conditions name, so that every
+// The sets of rows that a layout can have: an ISS for each outcome of the tests that 01's conditions name, so that
+// every
 // set is that of one of them, and when a set fits a list of leaf values (specs/), which at most one does (proofs/).
 #![tactic(auto)]
 
@@ -62,7 +63,8 @@ pub fn index_of(bit_24: u64, bit_10: u64, bit_7: u64, status: u64) -> usize
 }
 
 // ISS itself as a row, under the rule of its own text: the only leaf where it has no fields.
-// Kept beside `engine::top::ISS`, no plainer as one: what is told of sets of rows rests on the tables and not on a decoder.
+// Kept beside `engine::top::ISS`, no plainer as one: what is told of sets of rows rests on the tables and not on a
+// decoder.
 pub fn iss_row(rule: u8) -> Row
     ensures { IssRow rule result }
 {

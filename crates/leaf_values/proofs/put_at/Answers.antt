@@ -6,14 +6,18 @@ use Rattle.leaf_values.proofs.put_at.Goals as goal
 pub overflow_add-result : goal.overflow_add-result
 overflow_add-result c =
     let a = c.args in
-    omega
-    (arith, two_fit a.iss a.row.start a.row.width a.x c.requires.0 c.requires.1 c.field-low.ensures c.field-high.ensures)
+    omega (
+      arith,
+      two_fit a.iss a.row.start a.row.width a.x c.requires.0 c.requires.1 c.field-low.ensures c.field-high.ensures,
+    )
 
 pub overflow_add-result-2 : goal.overflow_add-result-2
 overflow_add-result-2 c =
     let a = c.args in
-    omega
-    (arith, three_fit a.iss a.row.start a.row.width a.x c.requires.0 c.requires.1 c.field-low.ensures c.field-high.ensures)
+    omega (
+      arith,
+      three_fit a.iss a.row.start a.row.width a.x c.requires.0 c.requires.1 c.field-low.ensures c.field-high.ensures,
+    )
 
 pub returns : goal.returns
 returns c =
