@@ -7,7 +7,7 @@ use native.Mathlib.Omega.{arith}
 use lib.Dec.{eqb, leb}
 use lib.ListN.{length}
 use Rattle.std.specs.Prelude.{Result}
-use borrow.Author.Tests.{eq-eqb, ne_eqb, eqb-true, eqb-false, le-leb, lt-leb}
+use borrow.Author.Tests.{eqb-true, eqb-false, le-leb, lt-leb}
 use Rattle.esr.specs.Decode.{refused, accepted}
 use Rattle.esr.specs.declared.Answer.{Answer}
 use Rattle.written.specs.Outcomes.{Outcome, Answers}

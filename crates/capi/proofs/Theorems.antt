@@ -21,7 +21,7 @@ use Rattle.refusals.specs.Refusals.{carrying, passed, reason_number}
 use Rattle.refusals.specs.declared.Reason.TheVariants.{ShortBuffer}
 use Rattle.strict.specs.Strict.{answer_by}
 use Rattle.strict.specs.declared.Profile.{Profile}
-use Rattle.capi.specs.Answers.{filled_of, entry_answer}
+use Rattle.capi.specs.Answers.{entry_answer}
 use Rattle.capi.specs.Buffers.{filling, filled_by, filled_with}
 use Rattle.engine.specs.Words.{words_of}
 use Rattle.capi.specs.Words.{all_words, decoding}

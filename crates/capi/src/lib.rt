@@ -174,9 +174,7 @@ fn write_text(code: u16, buf: &mut [u8])
     requires { length (bytes_at code) ≤ length buf.old }
     ensures { buf.new ≡ front (bytes_at code) buf.old }
 {
-    let pool = texts::pool_bytes();
-    let starts = texts::text_starts();
-    buffer::put_text(buf, 0, &pool, &starts, code);
+    buffer::put_code(buf, 0, code);
 }
 
 #[unsafe(no_mangle)]
@@ -279,15 +277,15 @@ fn phrase_answer(refusal: Refusal, found: Option<Found>) -> PhraseAnswer
     }
 }
 
+// Kept (the C interface): two sheets, each lent by itself.
 #[unsafe(no_mangle)]
 pub extern "C" fn esr_phrase(workshop: &[u8], standard: &[u8], code: u16) -> PhraseAnswer
     ensures { PhraseAnswered (workshop.now, standard.now, code) result }
 {
-    let refusal = phrases::sheets_refusal(workshop, standard);
-    if refusal.is_refused() {
-        return phrase_answer(refusal, None);
+    match phrases::sheets_refusal(workshop, standard) {
+        Ok(()) => phrase_answer(Refusal::NONE, phrases::find(workshop, standard, code)),
+        Err(refusal) => phrase_answer(refusal, None),
     }
-    phrase_answer(refusal, phrases::find(workshop, standard, code))
 }
 
 #[unsafe(no_mangle)]
