@@ -116,6 +116,7 @@ pub fn put_listing(
 }
 
 // With the texts of two sheets, which the caller has judged, in place of the pool's.
+// Kept: two sheets, which `ListingWithPut` names one by one; inside they travel in `Words`.
 pub fn put_listing_with(
     buf: &mut [u8],
     at: usize,

@@ -48,6 +48,7 @@ impl Standing {
     }
 
     // The number of the last line among the lines; 0 where it is the only one, which has no name.
+    // Kept as a number, no Option: `ListingReply` and `ListingWithReply` take line 0 for the only one.
     fn last_number(self) -> u64 {
         if self.named {
             return self.count.wrapping_add(1);
@@ -95,6 +96,8 @@ impl Asked<'_> {
 
     // Answers the lines that end in a part of the input, and hands on where the run stands.
     // Kept as a `while` (no plainer): each turn takes a line, which the data ends.
+    // Kept beside the loop of `cli` (rule of the project): one function for both would be told by its caller what to
+    // reply, and a public function asks nothing of its caller and promises all that it gives. Both share `take_line`.
     #[tactic(auto, using(line_reader::proofs::Laws::part_moved))]
     fn answer_part(self, from: Standing, part: &[u8], buf: &mut [u8]) -> Standing {
         let mut standing = Standing {
