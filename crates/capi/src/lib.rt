@@ -230,6 +230,7 @@ pub extern "C" fn esr_listing(esr: u64, buf: &mut [u8]) -> Filled
     filled_by_text(listing::listing(esr, buf))
 }
 
+// Kept (the C interface): two sheets, each lent by itself.
 #[unsafe(no_mangle)]
 pub extern "C" fn esr_listing_with(
     esr: u64,

@@ -39,6 +39,8 @@ fn reply(kind: Kind, buf: &mut [u8], at: usize, number: Number) -> usize {
 }
 
 // Answers the lines that end in a part of the input, and hands on the line that does not.
+// Kept beside the loop of `esr_listing` (rule of the project): one function for both would be told by its caller what to
+// reply, and a public function asks nothing of its caller and promises all that it gives. Both share `take_line`.
 #[tactic(auto, using(line_reader::proofs::Laws::part_moved))]
 fn answer_part(
     kind: Kind,
