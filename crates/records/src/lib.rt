@@ -13,6 +13,7 @@ use texts::rules;
 
 pub mod kinds;
 
+// Kept, a start and a width: it is public and promises its answer of any two (`Field`).
 pub fn field(v: u64, start: u8, width: u8) -> u64
     ensures { Field (v, start, width) result }
 {
@@ -69,7 +70,7 @@ impl Mark {
 }
 
 // The reason of a coded kind, by its index.
-// Kept, None for any other index: `refusal` takes any kind, and promises that reason of a kind past the list (`Refused`).
+// Kept, None for any other index: `refusal` takes any kind, and promises that reason of one past the list (`Refused`).
 fn reason_at(index: u8) -> Reason
     ensures { result ≡ reason_at index }
 {

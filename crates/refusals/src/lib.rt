@@ -4,8 +4,8 @@
 ghost use Rattle.refusals.specs.Promises.{Carrying, Checked, IsRefused, Number, ValueNumber, ValuePlace};
 
 // The reasons, in the order of their numbers; None where nothing is refused.
-// Kept, the reason None: a public `Refusal` may refuse nothing, in the field of an `Answer`, which document 01 names, and
-// where a reply is told one (`IsRefused`, `Carrying`, `put_refusal`, `put_records_reply`).
+// Kept, the reason None: a public `Refusal` may refuse nothing, in the field of an `Answer`, which document 01 names,
+// and where a reply is told one (`IsRefused`, `Carrying`, `put_refusal`, `put_records_reply`).
 #[derive(Clone, Copy, PartialEq, Eq)]
 pub enum Reason {
     None,

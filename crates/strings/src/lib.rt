@@ -76,6 +76,7 @@ fn put_bits(buf: &mut [u8], at: usize, number: u64, start: u8, width: u8) -> usi
 }
 
 // What stands before the number that a refusal carries, the number, what stands after it; of 1 also the bits of its field.
+// Kept, a pool and its starts: `MessagePut` names both as they are lent.
 pub fn put_message(
     buf: &mut [u8],
     at: usize,

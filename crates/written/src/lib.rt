@@ -58,7 +58,7 @@ pub fn value_binary_string(width: u64, value: u64, buf: &mut [u8]) -> Result<usi
 }
 
 // Without a sum of start and width, which could wrap.
-// Kept, a start and a width: `message` takes them one by one, in 64 bits (`Message`), and a `u8` of them is no field yet.
+// Kept, a start and a width: `message` takes them one by one, in 64 bits (`Message`), and they may be of no field.
 fn names_field(start: u64, width: u64, value: u64) -> bool
     ensures { result ≡ names_field start width value }
 {
