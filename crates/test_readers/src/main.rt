@@ -29,6 +29,7 @@ const WORDS: u64 = 0x1000000;
 
 const WIDTH: usize = 64;
 
+// Kept, a length beside the bytes (rule of the project): there is no heap, and a line goes by value from run to run.
 #[derive(Clone, Copy)]
 struct Line {
     bytes: [u8; WIDTH],
@@ -167,7 +168,7 @@ fn with_words(run: Run, kind: u8, letters: &[u8], text: &mut [u8]) -> Run {
     next
 }
 
-// Every word of each length.
+// Every word of each length. Kept, lengths without a slice: each has a text of its own.
 fn with_lengths(run: Run, kind: u8, letters: &[u8], least: usize, greatest: usize) -> Run {
     let mut next = run;
     for length in least..=greatest.min(LETTERS) {
