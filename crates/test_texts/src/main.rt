@@ -22,30 +22,34 @@ const NO_TEXT: usize = 32;
 // Stands in no text.
 const SENTINEL: u8 = 0xFF;
 
+// What a message is asked for by.
+#[derive(Clone, Copy)]
+struct Asked {
+    number: u64,
+    carried: u64,
+    start: u64,
+    width: u64,
+}
+
+impl Asked {
+    fn of(refusal: Refusal) -> Self {
+        Self {
+            number: refusal.number() as u64,
+            carried: refusal.carries,
+            start: refusal.start as u64,
+            width: refusal.width as u64,
+        }
+    }
+}
+
 // A function, and what it is called with.
 #[derive(Clone, Copy)]
 enum Call {
-    Listing {
-        esr: u64,
-    },
-    RecordLine {
-        esr: u64,
-        index: usize,
-    },
-    Message {
-        number: u64,
-        carried: u64,
-        start: u64,
-        width: u64,
-    },
-    Value {
-        width: u64,
-        value: u64,
-    },
-    Binary {
-        width: u64,
-        value: u64,
-    },
+    Listing { esr: u64 },
+    RecordLine { esr: u64, index: usize },
+    Message(Asked),
+    Value { width: u64, value: u64 },
+    Binary { width: u64, value: u64 },
 }
 
 // The bytes written, or the refusal.
@@ -55,12 +59,9 @@ fn made(call: Call, buf: &mut [u8]) -> Answer {
     match call {
         Call::Listing { esr } => listing::listing(esr, buf),
         Call::RecordLine { esr, index } => listing::record_line(esr, index, buf),
-        Call::Message {
-            number,
-            carried,
-            start,
-            width,
-        } => written::message(number, carried, start, width, buf),
+        Call::Message(asked) => {
+            written::message(asked.number, asked.carried, asked.start, asked.width, buf)
+        }
         Call::Value { width, value } => written::value_string(width, value, buf),
         Call::Binary { width, value } => written::value_binary_string(width, value, buf),
     }
@@ -170,21 +171,15 @@ fn say_index(index: usize) {
     space();
 }
 
-fn say_carried(name: &[u8], number: u64, carried: u64, start: u64, width: u64) {
-    say_number(name, number);
-    say_hex(b" carried=0x", carried);
-    say_number(b" start=", start);
-    say_number(b" width=", width);
+fn say_asked(name: &[u8], asked: Asked) {
+    say_number(name, asked.number);
+    say_hex(b" carried=0x", asked.carried);
+    say_number(b" start=", asked.start);
+    say_number(b" width=", asked.width);
 }
 
 fn say_refusal(refusal: Refusal) {
-    say_carried(
-        b"refused ",
-        refusal.number() as u64,
-        refusal.carries,
-        refusal.start as u64,
-        refusal.width as u64,
-    );
+    say_asked(b"refused ", Asked::of(refusal));
 }
 
 // Says what a call answers, the text or the refusal, and tries it in the buffers.
@@ -239,29 +234,15 @@ fn say_values(tally: Tally, records: Records) -> Tally {
     next
 }
 
-fn say_message(tally: Tally, number: u64, carried: u64, start: u64, width: u64) -> Tally {
-    say_ended(
-        tally,
-        Call::Message {
-            number,
-            carried,
-            start,
-            width,
-        },
-    )
+fn say_message(tally: Tally, asked: Asked) -> Tally {
+    say_ended(tally, Call::Message(asked))
 }
 
 fn say_why(tally: Tally, refusal: Refusal) -> Tally {
     if !refusal.is_refused() {
         return tally;
     }
-    say_message(
-        tally,
-        refusal.number() as u64,
-        refusal.carries,
-        refusal.start as u64,
-        refusal.width as u64,
-    )
+    say_message(tally, Asked::of(refusal))
 }
 
 fn say_records(tally: Tally, esr: u64) -> Tally {
@@ -306,10 +287,17 @@ fn say_field(tally: Tally, width: u64, value: u64) -> Tally {
     say_strings(tally, width, value)
 }
 
+// Kept, four numbers: no plainer, a struct of them would be written out in each of the calls below.
 fn say_numbered(tally: Tally, number: u64, carried: u64, start: u64, width: u64) -> Tally {
-    say_carried(b"message ", number, carried, start, width);
+    let asked = Asked {
+        number,
+        carried,
+        start,
+        width,
+    };
+    say_asked(b"message ", asked);
     say(b": ");
-    say_message(tally, number, carried, start, width)
+    say_message(tally, asked)
 }
 
 // The message of a reserved field of a width: at the top of the value, one bit past it, and with a value that is one too great.
