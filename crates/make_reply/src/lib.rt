@@ -4,12 +4,10 @@
 
 ghost use Rattle.buffer.specs.Appending.{Appends};
 ghost use Rattle.make_reply.specs.Promises.{BadNumber, HelpReply, MakeReply, TooFew};
-ghost use Rattle.make_reply.specs.Replies.{reason_line, unmade};
-ghost use Rattle.make_reasons.specs.Reasons.{no_layout, too_wide};
-ghost use Rattle.layouts.specs.Layouts.{layout_number};
+ghost use Rattle.make_reply.specs.Asked.{no_layout_of, too_wide_of, unmade_of};
+ghost use Rattle.make_reply.specs.Replies.{reason_line};
 ghost use Rattle.texts.specs.Pool.{bytes, description_of};
 ghost use Rattle.texts.specs.Rules.{class_name};
-ghost use Rattle.std.specs.Prelude.{length};
 
 use buffer::{put_bytes, put_code};
 use digits::{Base, put_number};
@@ -18,59 +16,49 @@ use refusals::{Reason, Refusal};
 use reply_lines::{put_number_line, put_refusal, put_refused, put_why};
 use texts::rules;
 
-fn put_no_layout_line(
-    buf: &mut [u8],
-    at: usize,
-    refusal: Refusal,
-    class: u64,
-    leaves: &[u64],
-) -> usize
-    ensures { Appends (reason_line refusal (no_layout class (layout_number class) (length leaves.now))) (at, buf.old) (result, buf.new) }
-{
-    let mut next = put_refused(buf, at, refusal);
-    next = put_bytes(buf, next, b": ");
-    next = put_no_layout(buf, next, class, esr::layout_number(class), leaves.len());
-    put_bytes(buf, next, b"\n")
-}
-
-fn put_wide_line(
-    buf: &mut [u8],
-    at: usize,
-    refusal: Refusal,
+// What a value is asked for with.
+#[derive(Clone, Copy)]
+struct Asked<'a> {
     class: u64,
     il: u64,
     iss2: u64,
-    iss: u64,
-    leaves: &[u64],
-) -> usize
-    ensures { Appends (reason_line refusal (too_wide il iss2 (layout_number class) iss leaves.now)) (at, buf.old) (result, buf.new) }
-{
-    let mut next = put_refused(buf, at, refusal);
-    next = put_bytes(buf, next, b": ");
-    next = put_too_wide(buf, next, il, iss2, esr::layout_number(class), iss, leaves);
-    put_bytes(buf, next, b"\n")
+    leaves: &'a [u64],
 }
 
-// Why nothing was made: of two reasons in words of the class's own leaves, by the set that fits them.
-fn put_unmade(
-    buf: &mut [u8],
-    at: usize,
-    class: u64,
-    il: u64,
-    iss2: u64,
-    leaves: &[u64],
-    index: Option<usize>,
-    refusal: Refusal,
-) -> usize
-    ensures { Appends (unmade class il iss2 leaves.now refusal index) (at, buf.old) (result, buf.new) }
-{
-    match refusal.reason {
-        Reason::NoLayout => put_no_layout_line(buf, at, refusal, class, leaves),
-        Reason::WideLeaf => {
-            let iss = layout_sets::outcome(index.unwrap_or(layout_sets::SETS));
-            put_wide_line(buf, at, refusal, class, il, iss2, iss, leaves)
+impl Asked<'_> {
+    fn put_no_layout_line(self, buf: &mut [u8], at: usize, refusal: Refusal) -> usize
+        ensures { Appends (reason_line refusal (no_layout_of self.entry)) (at, buf.old) (result, buf.new) }
+    {
+        let mut next = put_refused(buf, at, refusal);
+        next = put_bytes(buf, next, b": ");
+        let number = esr::layout_number(self.class);
+        next = put_no_layout(buf, next, self.class, number, self.leaves.len());
+        put_bytes(buf, next, b"\n")
+    }
+
+    // By an ISS of the set that fits.
+    fn put_wide_line(self, buf: &mut [u8], at: usize, refusal: Refusal, iss: u64) -> usize
+        ensures { Appends (reason_line refusal (too_wide_of self.entry iss)) (at, buf.old) (result, buf.new) }
+    {
+        let mut next = put_refused(buf, at, refusal);
+        next = put_bytes(buf, next, b": ");
+        let number = esr::layout_number(self.class);
+        next = put_too_wide(buf, next, self.il, self.iss2, number, iss, self.leaves);
+        put_bytes(buf, next, b"\n")
+    }
+
+    // Why nothing was made: of two reasons in words of the class's own leaves, by the set that fits them.
+    fn put_unmade(self, buf: &mut [u8], at: usize, refusal: Refusal, index: Option<usize>) -> usize
+        ensures { Appends (unmade_of self.entry refusal index) (at, buf.old) (result, buf.new) }
+    {
+        match refusal.reason {
+            Reason::NoLayout => self.put_no_layout_line(buf, at, refusal),
+            Reason::WideLeaf => {
+                let iss = layout_sets::outcome(index.unwrap_or(layout_sets::SETS));
+                self.put_wide_line(buf, at, refusal, iss)
+            }
+            _ => put_refusal(buf, at, refusal),
         }
-        _ => put_refusal(buf, at, refusal),
     }
 }
 
@@ -87,7 +75,15 @@ pub fn put_make_reply(
     let index = maker::fitting(class, leaves);
     match maker::make(class, il, iss2, leaves) {
         Ok(value) => put_number_line(buf, at, b"0x", Base::Hex, value),
-        Err(refusal) => put_unmade(buf, at, class, il, iss2, leaves, index, refusal),
+        Err(refusal) => {
+            let asked = Asked {
+                class,
+                il,
+                iss2,
+                leaves,
+            };
+            asked.put_unmade(buf, at, refusal, index)
+        }
     }
 }
 

@@ -2,11 +2,11 @@
 use Rattle.buffer.proofs.Appending.{and_then}
 use Rattle.make_reply.specs.Replies.{reason_line}
 use Rattle.texts.specs.Pool.{bytes}
-use Rattle.make_reply.proofs.put_wide_line.Goals as goal
+use Rattle.make_reply.proofs.Asked.put_wide_line.Goals as goal
 
 pub returns : goal.returns
 unfolding reason_line bytes
 returns c =
-    rw (← c.layout_number.ensures)
+    rw (← c.layout_number-number.ensures)
     (and_then (and_then (and_then c.put_refused-next.ensures c.put_bytes-next.ensures) c.put_too_wide-next.ensures)
     c.put_bytes.ensures)
