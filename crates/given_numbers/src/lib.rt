@@ -12,8 +12,8 @@ use refusals::Refusal;
 
 // How many lines were taken, and the place of the first that holds no number, counted from 1, with why. The place is 0
 // where each holds one.
-// Kept, place and refusal side by side, and a count: `take_part` and `take_last` take any (`PartTaken`, `LastTaken`), and
-// numbers that the lent slice has no room for are counted too.
+// Kept, place and refusal side by side, and a count: `take_part` and `take_last` take any (`PartTaken`, `LastTaken`),
+// and numbers that the lent slice has no room for are counted too.
 #[derive(Clone, Copy)]
 pub struct Given {
     pub count: usize,

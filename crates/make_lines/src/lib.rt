@@ -7,7 +7,8 @@ ghost use Rattle.digits.specs.Digits.{numeral};
 ghost use Rattle.buffer.specs.Appending.{Appends};
 ghost use Rattle.leaf_values.specs.Leaves.{leaves_of};
 ghost use Rattle.make_lines.specs.Below.{below};
-ghost use Rattle.make_lines.specs.Help.{before, counted, is_seen, leaf_line, may_at, place_part, run_part, set_at, set_text, values_part};
+ghost use Rattle.make_lines.specs.Help.{before, counted, is_seen, leaf_line, may_at};
+ghost use Rattle.make_lines.specs.Help.{place_part, run_part, set_at, set_text, values_part};
 ghost use Rattle.make_lines.specs.Promises.{LeavesPut, NamePut, SetsPut, WidthPut};
 
 use buffer::{put_bytes, put_code};
@@ -137,7 +138,8 @@ impl Leaf {
     }
 }
 
-// Kept, number and ISS side by side, here and in `put_set`: no plainer, a struct of the two is taken apart at each call.
+// Kept, number and ISS side by side, here and in `put_set`: no plainer, a struct of the two would be taken apart at each
+// call.
 fn put_leaves(buf: &mut [u8], at: usize, number: u8, iss: u64, count: usize) -> usize
     requires { count ≤ 64 }
     ensures { Appends (below (leaf_line number iss) count) (at, buf.old) (result, buf.new) }

@@ -108,8 +108,8 @@ fn put_wide_leaf(buf: &mut [u8], at: usize, index: usize, row: Row, x: u64) -> u
 }
 
 // The index of the first leaf that is too wide, or how many there are: kept as a number, which `first_wide` of specs/ is.
-// Kept, number and ISS side by side, here and in `put_wide_at`: no plainer, `put_too_wide` would make a struct of them for
-// one call of each.
+// Kept, number and ISS side by side, here and in `put_wide_at`: no plainer, `put_too_wide` would make a struct of them
+// for one call of each.
 fn first_wide(number: u8, iss: u64, leaves: &[u64]) -> usize
     ensures { result ≡ first_wide number iss leaves.now 0 (length leaves.now) }
 {

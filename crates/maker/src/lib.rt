@@ -37,8 +37,8 @@ fn leaf_rows(number: u8, index: usize) -> LeafRows
     }
 }
 
-// Whether a row is that of these bits. Kept, start and width side by side, here and in `leaf_at`: no plainer, a struct of
-// them would be made anew in each of the four calls.
+// Whether a row is that of these bits. Kept, start and width side by side, here and in `leaf_at`: no plainer, a struct
+// of them would be made anew in each of the four calls.
 fn is_row(row: Row, start: u8, width: u8) -> bool
     ensures { result ≡ is_row start width row }
 {

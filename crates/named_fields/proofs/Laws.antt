@@ -142,7 +142,8 @@ module _ (class start width n : ℕ) (is : n ≡ layout_number class) where
 
   -- the class itself, or what is asked where it is not the class
   pub named-either : (own : Bool) {asked : Bool} → own ≡ is_field start width 26 6
-      → (false ≡ is_field start width 26 6 → asked ≡ is_named class start width) → own || asked ≡ is_named class start width
+      → (false ≡ is_field start width 26 6 → asked ≡ is_named class start width)
+      → own || asked ≡ is_named class start width
   named-either true e f = named-class e
   named-either false e f = f e
 

@@ -73,8 +73,8 @@ fn room() -> [u8; ROOM]
     [SENTINEL; ROOM]
 }
 
-// What a call answers in a buffer of a length, given what it answers in a whole room. Kept as a length, here and below: the
-// buffer is the front of a room, and what is told is how the whole room stands.
+// What a call answers in a buffer of a length, given what it answers in a whole room. Kept as a length, here and below:
+// the buffer is the front of a room, and what is told is how the whole room stands.
 fn answer_in(whole: Answer, length: usize) -> Answer {
     let bytes = whole?;
     if length < bytes {

@@ -24,14 +24,16 @@ bounds-starts-code c =
 pub slice_bounds-is_word-end-2 : goal.slice_bounds-is_word-end-2
 slice_bounds-is_word-end-2 c =
     let n = c.length_in-n in
-    let within = lent-within c.args.code n.result (record { whole = c.pool_bytes.ensures; each = c.text_starts.ensures })
+    let within = lent-within c.args.code n.result
+    (record { whole = c.pool_bytes.ensures; each = c.text_starts.ensures })
     n.ensures (omega (arith, c.if-n-eq0.false)) in
     search (rules, within)
 
 pub returns : goal.returns
 returns c =
     let n = c.length_in-n in
-    let within = lent-within c.args.code n.result (record { whole = c.pool_bytes.ensures; each = c.text_starts.ensures })
+    let within = lent-within c.args.code n.result
+    (record { whole = c.pool_bytes.ensures; each = c.text_starts.ensures })
     n.ensures (omega (arith, c.if-n-eq0.false)) in
     let own = lent-text c.args.code (record { whole = c.pool_bytes.ensures; each = c.text_starts.ensures }) in
     c.is_word-2.ensures
