@@ -11,7 +11,8 @@ own. The module has it as the first argument, and returns it; LLVM takes it for 
 
 WebAssembly is little-endian with the same integers and alignments, but its pointers have 32 bits here, which every browser knows. The module counts bytes by itself:
 every address is a pointer and a count of bytes, and a pointer in memory has eight bytes of room, of which four are used. `narrow` refuses a module in which a pointer
-is taken for a number, or an address is counted in anything but bytes. Lengths keep their 64 bits.
+is taken for a number, or an address is counted in anything but bytes, and reads two values that are read as one, where one is a pointer, each from its own place, as a
+pointer of 64 bits has it. Lengths keep their 64 bits.
 
 A module that looks otherwise than expected ends the tool: nothing is compiled of what is not understood."""
 import atexit
@@ -330,11 +331,37 @@ PUNS = re.compile(r"\b(?:ptrtoint|ptrtoaddr|inttoptr|addrspacecast)\b")
 ADDRESSES = re.compile(r"\bgetelementptr\b(?! (?:inbounds )?(?:nuw )?i8, ptr )")
 
 
+# Two values that are read from memory as one. Each lies there where pointers of 64 bits put it, since every store and every address is counted in bytes.
+PAIR = re.compile(r"  (%r\d+) = load \{ (i8|i16|i32|i64|ptr), (i8|i16|i32|i64|ptr) \}, ptr (%r\d+), align \d+")
+SIZES = {"i8": 1, "i16": 2, "i32": 4, "i64": 8, "ptr": 8}
+# What lies in memory as one and has a pointer among others: wherever else it stands, its place would depend on the pointer's size.
+TOGETHER = re.compile(r"\b(?:load|store|alloca|constant|global) <?[{\[][^\n]*?\bptr\b[^\n]*?[}\]]")
+
+
+def in_parts(line):
+    """A line that reads two values as one, one of them a pointer, as lines that read each from its own place; any other line as it is."""
+    pair = PAIR.fullmatch(line)
+    if not pair or "ptr" not in pair.group(2, 3):
+        return [line]
+    name, first, second, place = pair.groups()
+    offset = -(-SIZES[first] // SIZES[second]) * SIZES[second]
+    return [
+        f"  {name}.first = load {first}, ptr {place}, align 1",
+        f"  {name}.place = getelementptr i8, ptr {place}, i64 {offset}",
+        f"  {name}.second = load {second}, ptr {name}.place, align 1",
+        f"  {name}.begun = insertvalue {{ {first}, {second} }} poison, {first} {name}.first, 0",
+        f"  {name} = insertvalue {{ {first}, {second} }} {name}.begun, {second} {name}.second, 1",
+    ]
+
+
 def narrow(text):
-    """The module, unchanged, that means the same with pointers of 32 bits."""
+    """The module that means the same with pointers of 32 bits: as it is, but for pairs that are read in their parts."""
     pun = PUNS.search(text)
     expect(pun is None, f"{pun and pun.group()}, where a pointer has 32 bits")
     expect(not ADDRESSES.search(text), "an address that is not counted in bytes, where a pointer has 32 bits")
+    text = "".join(f"{part}\n" for line in text.splitlines() for part in in_parts(line))
+    together = TOGETHER.search(without_texts(text))
+    expect(together is None, f"'{together and together.group()}', where a pointer has 32 bits")
     return text
 
 
