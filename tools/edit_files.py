@@ -68,7 +68,7 @@ def attributes_above(lines):
 
 
 def items(crate, source, path):
-    """The functions, constants and statics of a file of code, by the names that the prover has for them, with what stands between."""
+    """The functions, constants and statics of a file of code, by the prover's names for them, with what stands between."""
     module = [] if path.stem in ("lib", "main") else list(path.relative_to(source).with_suffix("").parts)
     kind, name, first, gathered, owner = "", "", 1, [], []
     for number, line in enumerate(path.read_text().splitlines(keepends=True), 1):

@@ -11,8 +11,9 @@ own. The module has it as the first argument, and returns it; LLVM takes it for 
 
 WebAssembly is little-endian with the same integers and alignments, but its pointers have 32 bits here, which every browser knows. The module counts bytes by itself:
 every address is a pointer and a count of bytes, and a pointer in memory has eight bytes of room, of which four are used. `narrow` refuses a module in which a pointer
-is taken for a number, or an address is counted in anything but bytes, and reads two values that are read as one, where one is a pointer, each from its own place, as a
-pointer of 64 bits has it. Lengths keep their 64 bits.
+is taken for a number, or an address is counted in anything but bytes. Where the module reads two values from memory
+as one, and one of them is a pointer, `narrow` reads each from its own place, which is that of 64-bit pointers. Lengths
+keep their 64 bits.
 
 A module that looks otherwise than expected ends the tool: nothing is compiled of what is not understood."""
 import atexit
@@ -66,7 +67,8 @@ ARCHIVED = {
     "aarch64": ("--target=aarch64-unknown-none-elf", "-mgeneral-regs-only", "-mstrict-align", "-fPIC"),
     "x86_64": ("--target=x86_64-unknown-linux-gnu", "-fPIC"),
 }
-# How large a function clang compiles into its callers. By its own limit the number reader calls a function for each digit, and takes three times as long.
+# How large a function clang compiles into its callers. By its own limit the number reader calls a function for each digit,
+# and takes three times as long.
 IN_PLACE = ("-mllvm", "-inline-threshold=1000")
 # One of this size is called and not copied: the maker calls it in two places.
 APART = ("layouts::layout_of",)
@@ -331,15 +333,17 @@ PUNS = re.compile(r"\b(?:ptrtoint|ptrtoaddr|inttoptr|addrspacecast)\b")
 ADDRESSES = re.compile(r"\bgetelementptr\b(?! (?:inbounds )?(?:nuw )?i8, ptr )")
 
 
-# Two values that are read from memory as one. Each lies there where pointers of 64 bits put it, since every store and every address is counted in bytes.
+# Two values that are read from memory as one. Each lies where 64-bit pointers put it, since every store and every address
+# is counted in bytes.
 PAIR = re.compile(r"  (%r\d+) = load \{ (i8|i16|i32|i64|ptr), (i8|i16|i32|i64|ptr) \}, ptr (%r\d+), align \d+")
 SIZES = {"i8": 1, "i16": 2, "i32": 4, "i64": 8, "ptr": 8}
-# What lies in memory as one and has a pointer among others: wherever else it stands, its place would depend on the pointer's size.
+# Any other struct or array in memory with a pointer in it: where its parts lie would depend on the pointer's size.
 TOGETHER = re.compile(r"\b(?:load|store|alloca|constant|global) <?[{\[][^\n]*?\bptr\b[^\n]*?[}\]]")
 
 
 def in_parts(line):
-    """A line that reads two values as one, one of them a pointer, as lines that read each from its own place; any other line as it is."""
+    """The lines that read two values each from its own place, for a line that reads them as one, if one is a pointer.
+    Any other line stays as it is."""
     pair = PAIR.fullmatch(line)
     if not pair or "ptr" not in pair.group(2, 3):
         return [line]
