@@ -26,7 +26,11 @@ struct Refused {
     fault: Fault,
 }
 
+// Only what `is_fault` calls a fault is told.
 fn tell(refused: Refused) {
+    if !sheet_reply::is_fault(refused.fault) {
+        return;
+    }
     let mut text = io::buffer();
     let end = sheet_reply::put_fault(&mut text, 0, refused.line, refused.fault);
     io::write_all(STDERR, &text[..end.min(4096)]);

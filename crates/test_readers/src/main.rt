@@ -1,5 +1,6 @@
 // The answers of the number readers and of the entry reader to many inputs, as standard input asks for them; each run of equal answers is one
-// line, its count in front. An answer shows every number of it and every byte, refused or not.
+// line, its count in front. An answer shows every number of it and every byte, refused or not; the numbers of a refusal
+// are put here, as they are for C: the readers give none.
 //
 // A request: what to make, the least and the greatest length of an input (three bytes each), how many bytes follow (two), and the bytes.
 //   'w'  whole numbers: every word of these bytes
