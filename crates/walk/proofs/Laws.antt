@@ -1,7 +1,7 @@
 -- Laws of the walk's definitions, which the functions' proofs cite: where an entry is sound the walk goes on, 13 bytes
 -- later, and elsewhere it ends. The entry reader refuses all that the walk ends at, so that what the code asks of it
 -- decides.
-use Rattle.std.proofs.Common.{◌≡◌, ℕ, zero, suc, ◌+◌, ◌-◌, ◌*◌, ◌%◌, ◌<◌, ◌≤◌, Bool, true, false, cond, ◌||◌, eqb, ltb, List, [], ◌∷◌, ◌++◌, length, take, drop, set, sym, refl, ap, ◌∙◌, append_assoc, append-nil, add-one, arith, eqb→eq, length-append, length-drop, take-append-drop, length-take-le, take_all, drop-drop, take-suc-set, drop-set-lt, le-ltb, lt-ltb, eq-eqb, ne_eqb, eqb-true}
+use Rattle.std.proofs.Common.{◌≡◌, ℕ, zero, suc, ◌+◌, ◌-◌, ◌*◌, ◌%◌, ◌^◌, ◌<◌, ◌≤◌, Bool, true, false, cond, ◌||◌, eqb, ltb, List, [], ◌∷◌, ◌++◌, length, take, drop, set, sym, refl, ap, ◌∙◌, append_assoc, append-nil, add-one, arith, eqb→eq, length-append, length-drop, take-append-drop, length-take-le, take_all, drop-drop, take-suc-set, drop-set-lt, le-ltb, lt-ltb, eq-eqb, ne_eqb, eqb-true}
 use mathlib.Core.Bool.{true≢false}
 use lib.ListN.{length-map}
 use borrow.Author.Tests.{eqb-false}
@@ -213,9 +213,19 @@ steps_fewer s = steps_length (sequences (entries_of s)) ∙ rw (length-map (entr
 -- Sequence numbers.
 
 module _ (last next : ℕ) (small : last < 65536) (below : next < 65536) where
-  pub skipped-is : ((next + (65536 - last)) % 65536 + 65535) % 65536 ≡ skipped last next
+  -- by the difference and the step, each told by what gives it back
+  pub skipped-is : (d r : ℕ) → d < 65536 → r < 65536 → (d + last) % 2 ^ 16 ≡ next → (r + 1) % 2 ^ 16 ≡ d → r ≡ skipped last next
   unfolding skipped
-  skipped-is = by (eqb next last) refl
+  skipped-is d r hd hr e f = by (eqb next last) refl
+    where
+      by : (b : Bool) → eqb next last ≡ b → r ≡ cond b 65535 ((next + 65536 - last) % 65536 - 1)
+      by true h = omega (arith, eqb-true next last h)
+      by false h = let n = eqb-false next last h in omega arith
+
+  -- as two subtractions that wrap compute it
+  pub wrapped-is : ((next + (65536 - last)) % 65536 + 65535) % 65536 ≡ skipped last next
+  unfolding skipped
+  wrapped-is = by (eqb next last) refl
     where
       by : (b : Bool) → eqb next last ≡ b
           → ((next + (65536 - last)) % 65536 + 65535) % 65536 ≡ cond b 65535 ((next + 65536 - last) % 65536 - 1)

@@ -2,10 +2,15 @@
 -- holds after.
 use Rattle.std.specs.Prelude.{ℕ, cond, List, ◌≡◌, leb, length, Result, Ok, Err}
 use Rattle.refusals.specs.Refusals.{carrying}
+use Rattle.refusals.specs.declared.Reason.{Reason}
 use Rattle.refusals.specs.declared.Reason.TheVariants.{ShortBuffer}
 use Rattle.refusals.specs.declared.Refusal.{Refusal}
-use Rattle.written.specs.Outcomes.{Answers}
+use Rattle.written.specs.Outcomes.{Answers, refusal}
 use Rattle.written.specs.Requested.{value_string, binary_string, message_of}
+
+-- a refusal, which wrote nothing
+abbrev pub WrittenRefused : Reason × ℕ → Result ℕ Refusal → Type 0
+WrittenRefused (reason, carries) r = r ≡ refusal (carrying reason carries)
 
 -- so many bytes, where a buffer has room for them
 abbrev pub RoomFor : ℕ × List ℕ → Result ℕ Refusal → Type 0

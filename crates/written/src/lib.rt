@@ -5,13 +5,20 @@
 
 ghost use Rattle.strings.specs.Messages.{message_text};
 ghost use Rattle.written.specs.Outcomes.{Answers, text};
-ghost use Rattle.written.specs.Promises.{BinaryString, Message, RoomFor, ValueString};
+ghost use Rattle.written.specs.Promises.{BinaryString, Message, RoomFor, ValueString, WrittenRefused};
 ghost use Rattle.written.specs.Requested.{fits as fitting, names_field, string_of};
 ghost use Rattle.std.specs.Prelude.{◌≡◌};
 
 use refusals::{Reason, Refusal};
 use strings::{Form, RES0, put_message, put_string};
 use texts::rules;
+
+// A refusal: no bytes are written.
+pub fn refused(reason: Reason, carries: u64) -> Result<usize, Refusal>
+    ensures { WrittenRefused (reason, carries) result }
+{
+    Err(Refusal::carrying(reason, carries))
+}
 
 // The bytes of a text that was measured, if the buffer has room for them; the refusal carries the bytes needed.
 // A caller measures and writes by itself: one function that takes the appender as a closure would require it to be
@@ -20,7 +27,7 @@ pub fn room_for(bytes: usize, buf: &[u8]) -> Result<usize, Refusal>
     ensures { RoomFor (bytes, buf.now) result }
 {
     if buf.len() < bytes {
-        return Err(Refusal::carrying(Reason::ShortBuffer, bytes as u64));
+        return refused(Reason::ShortBuffer, bytes as u64);
     }
     Ok(bytes)
 }
@@ -37,7 +44,7 @@ fn field_string(form: Form, width: u64, value: u64, buf: &mut [u8]) -> Result<us
     ensures { Answers (string_of form width value) buf.old (result, buf.new) }
 {
     if !fits(width, value) {
-        return Err(Refusal::carrying(Reason::BadField, 0));
+        return refused(Reason::BadField, 0);
     }
     let narrow = width as u8;
     let bytes = room_for(put_string(&mut [], 0, form, narrow, value), buf)?;
@@ -96,13 +103,13 @@ pub fn message(
     ensures { Message (number, carried, start, width, buf.old) (result, buf.new) }
 {
     if !lookup::describes(rules::MESSAGE, number) {
-        return Err(Refusal::carrying(Reason::BadField, 0));
+        return refused(Reason::BadField, 0);
     }
     if number != RES0 {
         return message_text(number, carried, 0, 0, buf);
     }
     if !names_field(start, width, carried) {
-        return Err(Refusal::carrying(Reason::BadField, 0));
+        return refused(Reason::BadField, 0);
     }
     message_text(number, carried, start as u8, width as u8, buf)
 }

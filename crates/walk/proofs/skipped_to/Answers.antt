@@ -1,7 +1,7 @@
 -- Both subtractions wrap: by whether the numbers are equal.
 use borrow.Author.Rules.{rules}
-use Rattle.walk.proofs.Laws.{skipped-is}
+use Rattle.walk.proofs.Laws.{wrapped-is}
 use Rattle.walk.proofs.skipped_to.Goals as goal
 
 pub returns : goal.returns
-returns c = skipped-is c.args.last c.args.next (search rules) (search rules)
+returns c = wrapped-is c.args.last c.args.next (search rules) (search rules)

@@ -1,7 +1,6 @@
 -- The field fits or is refused; then the text is measured; then it is written, or the buffer is too short.
 use native.Mathlib.Omega.{arith}
-use mathlib.Core.Path.{refl, sym, ap, ◌∙◌}
-use Rattle.std.specs.Prelude.{Err}
+use mathlib.Core.Path.{refl, sym, ◌∙◌}
 use Rattle.written.proofs.Answers.{string_no, string_yes, string_small}
 use Rattle.written.proofs.Kept.{exit, by-refusal, by_shortness, by_writing}
 use Rattle.written.proofs.Widths.{width_small}
@@ -9,7 +8,7 @@ use Rattle.written.proofs.field_string.Goals as goal
 
 pub returns-then-not-fits : goal.returns-then-not-fits
 returns-then-not-fits c =
-    by-refusal (string_no c.args.form _ _ (sym c.fits.ensures ∙ c.if-not-fits.true)) (ap Err c.carrying.ensures)
+    by-refusal (string_no c.args.form _ _ (sym c.fits.ensures ∙ c.if-not-fits.true)) c.refused.ensures
 
 pub overflow_cast-narrow : goal.overflow_cast-narrow
 overflow_cast-narrow c = omega (arith, width_small _ _ (sym c.fits.ensures ∙ c.if-not-fits.false))
