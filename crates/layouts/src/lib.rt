@@ -81,29 +81,31 @@ fn decode_iss_res0(iss: u64) -> Layout
 }
 
 // The layout of a number, for this ISS; a number of no layout has the last one.
+// Each arm returns, no plainer as one expression: where the arms come together the compiler carries each of the 101
+// bytes of a layout by itself, which takes five times the instructions.
 #[tactic(auto, unfolding(crate::specs::Layouts::table_of, tables::specs::Tables::layouts))]
 pub fn layout_of(number: u8, iss: u64) -> Layout
     ensures { LayoutOf (number, iss) result }
 {
     match number {
-        numbers::RES0 => decode_iss_res0(iss),
-        numbers::WF => wf::decode_iss_wf(iss),
-        numbers::MCR => mcr::decode_iss_mcr(iss),
-        numbers::MCRR => mcr::decode_iss_mcrr(iss),
-        numbers::LDC => ldc::decode_iss_ldc(iss),
-        numbers::SVE => sve::decode_iss_sve(iss),
-        numbers::LD64B => ld64b::decode_iss_ld64b(iss),
-        numbers::BTI => bti::decode_iss_bti(iss),
-        numbers::PAUTH => pauth::decode_iss_pauth(iss),
-        numbers::HVC => hvc::decode_iss_hvc(iss),
-        numbers::BRK => breakpoint::decode_iss_breakpoint(iss),
-        numbers::FP => fp::decode_iss_fp(iss),
-        numbers::BREAKPOINT => breakpoint::decode_iss_breakpoint_vector_catch(iss),
-        numbers::SOFTWARE_STEP => breakpoint::decode_iss_software_step(iss),
-        numbers::WATCHPOINT => breakpoint::decode_iss_watchpoint(iss),
-        numbers::INSTRUCTION_ABORT => abort::decode_iss_instruction_abort(iss),
-        numbers::DATA_ABORT => abort::decode_iss_data_abort(iss),
-        numbers::SERROR => serror::decode_iss_serror(iss),
-        _ => msr::decode_iss_msr(iss),
+        numbers::RES0 => return decode_iss_res0(iss),
+        numbers::WF => return wf::decode_iss_wf(iss),
+        numbers::MCR => return mcr::decode_iss_mcr(iss),
+        numbers::MCRR => return mcr::decode_iss_mcrr(iss),
+        numbers::LDC => return ldc::decode_iss_ldc(iss),
+        numbers::SVE => return sve::decode_iss_sve(iss),
+        numbers::LD64B => return ld64b::decode_iss_ld64b(iss),
+        numbers::BTI => return bti::decode_iss_bti(iss),
+        numbers::PAUTH => return pauth::decode_iss_pauth(iss),
+        numbers::HVC => return hvc::decode_iss_hvc(iss),
+        numbers::BRK => return breakpoint::decode_iss_breakpoint(iss),
+        numbers::FP => return fp::decode_iss_fp(iss),
+        numbers::BREAKPOINT => return breakpoint::decode_iss_breakpoint_vector_catch(iss),
+        numbers::SOFTWARE_STEP => return breakpoint::decode_iss_software_step(iss),
+        numbers::WATCHPOINT => return breakpoint::decode_iss_watchpoint(iss),
+        numbers::INSTRUCTION_ABORT => return abort::decode_iss_instruction_abort(iss),
+        numbers::DATA_ABORT => return abort::decode_iss_data_abort(iss),
+        numbers::SERROR => return serror::decode_iss_serror(iss),
+        _ => return msr::decode_iss_msr(iss),
     }
 }
