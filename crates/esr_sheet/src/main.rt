@@ -26,7 +26,7 @@ struct Refused {
     fault: Fault,
 }
 
-// Only what `is_fault` calls a fault is told.
+// Prints nothing where `is_fault` says that there is no fault.
 fn tell(refused: Refused) {
     if !sheet_reply::is_fault(refused.fault) {
         return;

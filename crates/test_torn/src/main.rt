@@ -44,9 +44,10 @@ fn esr_of(block: &[u8]) -> u64 {
 // A copy of an entry whose bytes from one offset to before another were not written.
 fn worn(block: &[u8], from: usize, to: usize) -> [u8; SIZE] {
     let mut copy = [0xFFu8; SIZE];
-    for (i, byte) in copy.iter_mut().enumerate() {
-        if i < block.len() && (i < from || to <= i) {
-            *byte = block[i];
+    // By offsets, no plainer by `enumerate` over the copy: that took twice the instructions.
+    for i in 0..SIZE.min(block.len()) {
+        if i < from || to <= i {
+            copy[i] = block[i];
         }
     }
     copy
